@@ -1,0 +1,93 @@
+-- What is written reads back the same: the text of a book tells that book. Assumes nothing.
+use mathlib.Core.Path.{_≡_, refl, sym, ap, subst, _∙_}
+use mathlib.Core.List.{List, [], _∷_, _++_, map, append-assoc}
+use mathlib.Core.Logic.{_⊎_, inl, inr}
+use Prim.Native.Nat.{ℕ, _-_, _<_, _≤_}
+use native.Mathlib.Nat.{sub-zero}
+use native.Mathlib.Omega.{arith}
+use lib.ListN.{length, take, drop, length-append}
+use Rattle.std.specs.shelf.Lists.{All, joined}
+use Rattle.std.specs.Written.{decimal}
+use Rattle.std.specs.Of.Vec.{vec-items}
+use Rattle.std.specs.declared.option.Option.the-variants.{Some}
+use Rattle.std.specs.declared.result.Result.{Result}
+use Rattle.std.specs.declared.result.Result.the-variants.{Ok, Err}
+use Rattle.std.proofs.shelf.Lists.{take-at}
+use Rattle.refusal.specs.declared.Fault.{Fault}
+use Rattle.refusal.specs.declared.Refusal.{Refusal}
+use Rattle.refusal.specs.declared.Refusal.the-variants.{OutOfMemory, LentTooShort}
+use Rattle.text.specs.Fields.{fielded, Short, Stroke, Lacks}
+use Rattle.text.specs.Lines.{Starts}
+use Rattle.text.specs.Reading.{Ending, stated, Ends}
+use Rattle.text.proofs.Cutting.{decimal-lacks}
+use Rattle.text.proofs.Chaining.{fielded-lacks}
+use Rattle.book.specs.declared.rules.RightSide.{RightSide}
+use Rattle.book.specs.declared.rules.RightSide.the-variants.{Cut, Pair}
+use Rattle.book.specs.declared.rules.Rule.{Rule}
+use Rattle.book.specs.declared.books.Book.{Book}
+use Rattle.book.specs.Ranges.{Lawful}
+use Rattle.book.specs.Statements.{Said, parts, rule, written-rule, rule-text, ShortSide, States, Stated, book-form}
+use Rattle.book.specs.Texts.{Listed, without-notes, Tells, stated-in, no-memory, Agrees, Told}
+use Rattle.book.specs.Writing.{ended-line, written, book-text, Wrote, ReadBack}
+use Rattle.book.proofs.Telling.{tells-accepted}
+use Rattle.book.proofs.Putting.{Fits, all-fit, written-short, lawful-of}
+
+lacks : (n : ℕ) → Short n → Lacks 10 (decimal n)
+lacks n h = decimal-lacks 10 n (omega arith) h
+
+rule-lacks : (p : ℕ) (s : RightSide) (t g : ℕ) → Short p → ShortSide s → Short t → Short g → Lacks 10 (written-rule p s t g)
+rule-lacks p (Cut s) t g hp h ht hg = (omega arith, fielded-lacks 10 _ (omega arith) (lacks p hp, ((λ e. omega (arith, h .0), tt), (lacks t ht, (lacks g hg, tt)))))
+rule-lacks p (Pair l r) t g hp h ht hg = (omega arith, fielded-lacks 10 _ (omega arith) (lacks p hp, (lacks l (h .0), (lacks r (h .1), (lacks t ht, (lacks g hg, tt))))))
+
+-- a line in front
+starts-line : (line after : List ℕ) → Lacks 10 line → Starts ((line ++ 10 ∷ []) ++ after) line after
+starts-line line after h = record { whole = sym (append-assoc line (10 ∷ []) after); apart = h }
+
+rules-listed : (k : ℕ) (rules : List Rule) → All (Fits k) rules → Listed (map rule rules) (joined (λ u. ended-line (rule u)) rules)
+rules-listed k [] h = refl
+rules-listed k (u ∷ us) h =
+    let s = h .0 .1 in
+    (rule-text u, _, starts-line (rule-text u) _ (rule-lacks (u .part) (u .side) (u .time) (u .grade) (s .0) (s .1) (s .2) (s .3)), record { text = refl; spelled = s }, rules-listed k us (h .1))
+
+no-notes : (rules : List Rule) → without-notes (map rule rules) ≡ map rule rules
+no-notes [] = refl
+no-notes (u ∷ us) = ap (λ l. rule u ∷ l) (no-notes us)
+
+pub written-tells : (k : ℕ) (rules : List Rule) → Lawful k rules → Tells (written k rules) k rules
+unfolding written
+written-tells k rules h =
+    let few : Short k = omega (arith, h .few-parts) in
+    record {
+      short = written-short k rules h;
+      lines = parts k ∷ map rule rules;
+      listed = (107 ∷ fielded (decimal k ∷ []), _, starts-line _ _ (omega arith, fielded-lacks 10 _ (omega arith) (lacks k few, tt)), record { text = refl; spelled = few }, rules-listed k rules (all-fit k rules h));
+      told = ap (λ l. parts k ∷ l) (no-notes rules);
+      lawful = h;
+    }
+
+module _ (b : Book) (n : ℕ) (before after : List ℕ) (w : Wrote (book-text b) before (Ok n) after) where
+  pub fits : n ≤ length after
+  fits = omega (arith, ap length (w .1), w .0, length-append (book-text b) (drop n before))
+
+  -- as the checker reads `&out[0..n]`
+  front : take (n - 0) after ≡ book-text b
+  front = ap (λ k. take k after) (sub-zero n) ∙ ap (take n) (w .1) ∙ take-at _ (drop n before) n (sym (w .0))
+
+  pasted : after ≡ book-text b ++ drop (length (book-text b)) before
+  pasted = w .1 ∙ ap (λ k. book-text b ++ drop k before) (w .0)
+
+  tells : Tells (take (n - 0) after) (b .parts) (vec-items (b .rules))
+  tells = subst (λ t. Tells t (b .parts) (vec-items (b .rules))) (sym front) (written-tells _ _ (lawful-of b))
+
+  pub again-same : (c : Book) → ((e : Ending Stated) → Ends book-form (take (n - 0) after) e → Agrees e (Ok c)) → ReadBack b before (Ok c) after
+  again-same c only =
+      let same = only (stated (record { parts = Some (b .parts); rules = vec-items (b .rules) })) (tells-accepted _ _ _ tells) in
+      let e = ap (λ (d : Stated). d .parts) same in
+      let k : c .parts ≡ b .parts = cc in
+      (k, sym (ap (λ (d : Stated). d .rules) same), pasted)
+
+  pub again-none : (f : Fault) → Told (take (n - 0) after) (Err f) → ReadBack b before (Err (f .refusal)) after
+  again-none f told = inr (sym (ap (λ (x : Fault). x .refusal) (told _ _ tells)), pasted)
+
+pub too-short : (b : Book) (before : List ℕ) (r : Refusal) (after : List ℕ) → Wrote (book-text b) before (Err r) after → ReadBack b before (Err r) after
+too-short b before r after w = inl w

@@ -1,0 +1,5 @@
+pub mod Ranges
+pub mod Statements
+pub mod Texts
+pub mod Steps
+pub mod Writing

@@ -1,0 +1,4 @@
+pub mod Grades
+pub mod Orders
+pub mod TimeGrades
+pub mod Times

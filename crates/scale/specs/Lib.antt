@@ -1,0 +1,4 @@
+pub mod Ops
+pub mod Times
+pub mod Grades
+pub mod TimeGrades
