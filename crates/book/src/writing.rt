@@ -35,8 +35,8 @@ fn put_rule(page: &mut Page, rule: Rule)
     page.push(b'\n');
 }
 
-// The line of the number of parts, and the lines of the rules in the order of their numbers.
-fn page_of(book: &Book) -> Page
+// The book's text: the line of the number of parts, and the lines of the rules in the order of their numbers.
+pub fn page_of(book: &Book) -> Page
     ensures { λ r. ⌜ page-text r ≡ book-text (now (book .entry)) ⌝ }
 {
     let mut page = Page::new();
