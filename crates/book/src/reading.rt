@@ -24,7 +24,7 @@ use text::lines::first_line;
 
 // The fields of a cut rule's line, as they stand.
 #[derive(Clone, Copy)]
-pub struct CutFields {
+struct CutFields {
     part: u32,
     stroke: u8,
     time: u32,
@@ -33,7 +33,7 @@ pub struct CutFields {
 
 // The fields of a pair rule's line, as they stand.
 #[derive(Clone, Copy)]
-pub struct PairFields {
+struct PairFields {
     part: u32,
     left: u32,
     right: u32,
@@ -43,7 +43,7 @@ pub struct PairFields {
 
 // What a line states. A note keeps its words as a part of the text.
 #[derive(Clone, Copy)]
-pub enum Line<'a> {
+enum Line<'a> {
     Parts(u32),
     Cut(CutFields),
     Pair(PairFields),
@@ -52,7 +52,7 @@ pub enum Line<'a> {
 
 // Why the reading stops.
 #[derive(Clone, Copy)]
-pub enum Stop {
+enum Stop {
     Refused(Refusal),
     OutOfMemory,
 }
@@ -291,7 +291,7 @@ fn read_lines(heap: Global, text: &[u8]) -> Result<Book, Fault>
     Ok(Book { parts, rules })
 }
 
-// The book that a text states, or the first refusal in the order of the tests, with its line.
+// The book that a text states, or the first refusal in the order of the checks, with its line.
 pub fn read(heap: Global, text: &[u8]) -> Result<Book, Fault>
     ensures outcome { λ r. ⌜ Outcome (now (text .entry)) r ⌝ }
     ensures only { λ r. ⌜ ((e : Ending Stated) → Ends book-form (now (text .entry)) e → Agrees e r) ⌝ }

@@ -20,7 +20,7 @@ pub enum Refusal {
     NotOpen,
     // 4: eight marks stand
     MarksFull,
-    // 5: a slip of another sheet, or of another level than the latest mark
+    // 5: a slip of another sheet, or of another level than the last mark that stands
     WrongSlip,
     // 6: no place at all, or a run to price of more than 24 places
     BadLength,

@@ -22,7 +22,12 @@ pub enum Report {
 }
 
 // A refusal as it is printed: its number, layer and line, and below it the faulty line, if there is one.
-pub fn fault_report(heap: Global, book: &[u8], order: &[u8], fault: Fault) -> Result<Vec<u8>, AllocError>
+pub fn fault_report(
+    heap: Global,
+    book: &[u8],
+    order: &[u8],
+    fault: Fault,
+) -> Result<Vec<u8>, AllocError>
     ensures { λ r. ⌜ made r (λ v. FaultShown (now (book .entry)) (now (order .entry)) fault (vec-items v)) ⌝ }
 {
     let mut out = fault.to_string(heap)?.into_bytes();

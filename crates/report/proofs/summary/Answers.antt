@@ -13,6 +13,6 @@ pub returns : need.returns
 returns c =
     headed (heading (c .args .book .now)) (book-text (c .args .book .now))
     (ap vec-items (c .into-bytes-out .ensures .value) ∙ c .in-Continue-format .ensures tt .made
-        ∙ (λ i. codes "parts " ++ (decimal (c .parts-parts .ensures i) ++ (codes "\nrules " ++ (decimal (length (c .rules .ensures i)) ++ codes "\n")))))
+    ∙ (λ i. codes "parts " ++ (decimal (c .parts-parts .ensures i) ++ (codes "\nrules " ++ (decimal (length (c .rules .ensures i)) ++ codes "\n")))))
     (c .text .ensures ∙ c .page-of .ensures)
     (c .in-Continue-extend-from-slice .ensures tt .items)
