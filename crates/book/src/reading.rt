@@ -15,12 +15,12 @@ use refusal::Fault;
 use refusal::Refusal;
 use refusal::Source;
 use std::alloc::Global;
-use text::fields::number_field;
-use text::fields::numbers;
-use text::fields::stroke_field;
-use text::kinds::Kind;
-use text::kinds::kind_of;
-use text::lines::first_line;
+use text::Kind;
+use text::first_line;
+use text::kind_of;
+use text::number_field;
+use text::numbers;
+use text::stroke_field;
 
 // The fields of a cut rule's line, as they stand.
 #[derive(Clone, Copy)]

@@ -9,7 +9,7 @@ use crate::rules::RightSide;
 use crate::rules::Rule;
 use refusal::Refusal;
 use std::alloc::Global;
-use text::pages::Page;
+use text::Page;
 
 // The line of a rule.
 fn put_rule(page: &mut Page, rule: Rule)

@@ -5,14 +5,14 @@ ghost use Prim.Native.Nat.{ℕ};
 ghost use Rattle.std.specs.Of.Vec.{vec-items};
 ghost use Rattle.std.specs.Vec.{made};
 ghost use Rattle.report.specs.Reports.{FaultShown, book-summary, BookReport};
-use book::books::Book;
-use book::reading::read;
-use book::writing::page_of;
+use book::Book;
+use book::page_of;
+use book::read;
 use refusal::Fault;
 use refusal::FaultDisplay;
 use std::alloc::AllocError;
 use std::alloc::Global;
-use text::lines::faulty_line;
+use text::faulty_line;
 
 // What a program prints, and whether the input was accepted.
 #[derive(Drop)]
