@@ -101,8 +101,8 @@ module _ {text : List ℕ} {number : ℕ} {sum : Stated} {rest : List ℕ} (s : 
       sum = sum;
       rest = rest;
       reached = record { short = short; reads = s .reads };
-      next = t .0;
-      after = t .1;
-      leads = subst (λ z. Leads book-form z rest (rule (t .0)) (t .1)) (sym same) (t .2);
+      next = t .0 .0;
+      after = t .0 .1;
+      leads = subst (λ z. Leads book-form z rest (rule (t .0 .0)) (t .0 .1)) (sym same) (t .0 .2);
     },
   )

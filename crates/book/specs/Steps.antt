@@ -5,7 +5,7 @@ use mathlib.Core.Logic.{_⊎_}
 use denote.Ref.{RefT}
 use Prim.Native.Nat.{ℕ, _<_, _≤_}
 use lib.ListN.{length}
-use Rattle.std.specs.Of.Vec.{vec-items}
+use Rattle.std.specs.Of.Vec.{vec-items, vec-len, vec-cap}
 use Rattle.std.specs.declared.option.Option.{Option}
 use Rattle.std.specs.declared.option.Option.the-variants.{Some, None}
 use Rattle.std.specs.declared.result.Result.{Result}
@@ -56,11 +56,15 @@ RuleIn k u (Some v) = (v ≡ u) × InRange k u
 abbrev pub stated-by : Draft → Stated
 stated-by d = record { parts = d .parts; rules = vec-items (d .rules) }
 
+-- there is no room for one more rule in the memory that the draft has
+abbrev pub Full : Draft → Type 0
+Full d = vec-cap (d .rules) ≤ vec-len (d .rules)
+
 -- d takes the statement and becomes e, or says what stops it
 abbrev pub Adds : Draft → Said → Result (Unit {0}) Stop → Draft → Type 0
 Adds d said (Ok _) e = Passes (book-tests (stated-by d) said) × (stated-by e ≡ stated-after (stated-by d) said)
 Adds d said (Err (stop.Refused r)) e = Fails (book-tests (stated-by d) said) r
-Adds d said (Err stop.OutOfMemory) e = Passes (book-tests (stated-by d) said) × ((u : Rule) × (said ≡ rule u))
+Adds d said (Err stop.OutOfMemory) e = Passes (book-tests (stated-by d) said) × ((u : Rule) × (said ≡ rule u)) × Full d
 
 -- d takes the rule, if there is one, and becomes e
 abbrev pub Pushes : Draft → Option Rule → Result (Unit {0}) Stop → Draft → Type 0
@@ -69,13 +73,13 @@ Pushes d None (Err (stop.Refused r)) e = OutOfRange ≡ r
 Pushes d None (Err stop.OutOfMemory) e = ⊥
 Pushes d (Some u) (Ok _) e = (length (vec-items (d .rules)) < 128) × (stated-by e ≡ stated-after (stated-by d) (rule u))
 Pushes d (Some u) (Err (stop.Refused r)) e = (128 ≤ length (vec-items (d .rules))) × (TooManyRules ≡ r)
-Pushes d (Some u) (Err stop.OutOfMemory) e = length (vec-items (d .rules)) < 128
+Pushes d (Some u) (Err stop.OutOfMemory) e = (length (vec-items (d .rules)) < 128) × Full d
 
 -- d takes the first line of bs and becomes e, or says what stops it
 abbrev pub Takes : Draft → List ℕ → Result (RefT (List ℕ)) Stop → Draft → Type 0
 Takes d bs (Ok after) e = (said : Said) × Leads book-form (stated-by d) bs said (after .now) × (stated-by e ≡ stated-after (stated-by d) said)
 Takes d bs (Err (stop.Refused r)) e = Refused book-form (stated-by d) bs r
-Takes d bs (Err stop.OutOfMemory) e = (u : Rule) × (after : List ℕ) × Leads book-form (stated-by d) bs (rule u) after
+Takes d bs (Err stop.OutOfMemory) e = ((u : Rule) × (after : List ℕ) × Leads book-form (stated-by d) bs (rule u) after) × Full d
 
 -- the fault of a reading that stops at a line
 abbrev pub stopped-at : Stop → ℕ → Fault
