@@ -1,18 +1,17 @@
 -- A line is its letter and the rest: from the kind of the letter to what the line states. Assumes nothing.
 use mathlib.Core.Path.{_≡_, refl, sym, ap, subst, _∙_}
 use mathlib.Core.List.{List, [], _∷_}
-use mathlib.Core.Logic.{_⊎_, inl, inr, ⊎-elim}
-use Prim.Native.Nat.{ℕ, _-_, _<_}
+use mathlib.Core.Logic.{_⊎_, inr, ⊎-elim}
+use Prim.Native.Nat.{ℕ, _-_}
 use native.Mathlib.Omega.{arith}
 use lib.ListN.{length, getD, take, drop}
 use Rattle.std.specs.Options.{Cases as BySome, okOr}
 use Rattle.std.specs.declared.option.Option.{Option}
 use Rattle.std.specs.declared.option.Option.the-variants.{Some, None}
-use Rattle.std.specs.declared.result.Result.the-variants.{Ok, Err}
 use Rattle.std.proofs.shelf.Parts.{first-rest}
-use Rattle.refusal.specs.declared.Refusal.the-variants.{UnknownLine, MalformedField}
+use Rattle.refusal.specs.declared.Refusal.the-variants.{MalformedField}
 use Rattle.text.specs.declared.kinds.Kind.{Kind}
-use Rattle.text.specs.declared.kinds.Kind.the-variants.{Parts, Cut, Pair, Note, TimeLimit, GradeLimit, BothLimit, Place}
+use Rattle.text.specs.declared.kinds.Kind.the-variants.{Parts, Cut, Pair, Note}
 use Rattle.text.specs.Kinds.{letter-of}
 use Rattle.text.specs.Reading.{OneOf, Known}
 use Rattle.book.specs.declared.reading.Line.{Line}
@@ -23,16 +22,6 @@ use Rattle.book.specs.Steps.{said-by, LineRead}
 abbrev pub OfBook : Kind → Type 0
 OfBook k = OneOf (book-form .letters) (letter-of k)
 
-other-kind : (k : Kind) → (k ≡ Parts → ⊥) → (k ≡ Cut → ⊥) → (k ≡ Pair → ⊥) → (k ≡ Note → ⊥) → OfBook k → ⊥
-other-kind Parts a b c d h = a refl
-other-kind Cut a b c d h = b refl
-other-kind Pair a b c d h = c refl
-other-kind Note a b c d h = d refl
-other-kind TimeLimit a b c d h = omega arith
-other-kind GradeLimit a b c d h = omega arith
-other-kind BothLimit a b c d h = omega arith
-other-kind Place a b c d h = omega arith
-
 -- the first letter of a known line
 first-of : (line : List ℕ) → Known (book-form .letters) line → OneOf (book-form .letters) (getD line 0 0)
 first-of [] h = absurd h
@@ -41,9 +30,6 @@ first-of (b ∷ bs) h = h
 pub unknown-letter : (line : List ℕ) → ((k : Kind) → letter-of k ≡ getD line 0 0 → ⊥) → Known (book-form .letters) line → ⊥
 unknown-letter line none h =
     ⊎-elim (λ e. none Parts (sym e)) (⊎-elim (λ e. none Cut (sym e)) (⊎-elim (λ e. none Pair (sym e)) (⊎-elim (λ e. none Note (sym e)) (λ f. f)))) (first-of line h)
-
-pub unknown-kind : (line : List ℕ) (k : Kind) → letter-of k ≡ getD line 0 0 → (k ≡ Parts → ⊥) → (k ≡ Cut → ⊥) → (k ≡ Pair → ⊥) → (k ≡ Note → ⊥) → Known (book-form .letters) line → ⊥
-unknown-kind line k e a b c d h = other-kind k a b c d (subst (OneOf (book-form .letters)) (sym e) (first-of line h))
 
 read-as : (line rest : List ℕ) (b : ℕ) (o : Option Line) → b ∷ rest ≡ line → OneOf (book-form .letters) b → BySome o ((said : Said) → States (b ∷ rest) said → ⊥) (λ l. States (b ∷ rest) (said-by l)) → LineRead line (okOr o MalformedField)
 read-as line rest b (Some l) e k h = subst (λ x. States x (said-by l)) e h

@@ -3,17 +3,16 @@ use mathlib.Core.Path.{_≡_, refl, sym, ap, subst, _∙_}
 use mathlib.Core.Bool.{true}
 use mathlib.Core.List.{List, [], _∷_, _++_, append-assoc, append-nil}
 use Prim.Native.Nat.{ℕ, _+_, _-_, _*_, _<_, _≤_}
-use native.Mathlib.Nat.{sub-zero}
 use native.Mathlib.Omega.{arith}
-use lib.ListN.{length, take, drop, getD, length-append}
+use lib.ListN.{length, take, getD, length-append}
 use Rattle.std.specs.shelf.Lists.{All, joined}
 use Rattle.std.specs.Written.{decimal}
 use Rattle.std.specs.Of.Vec.{vec-items}
 use Rattle.std.proofs.shelf.Ways.{tells}
-use Rattle.std.proofs.shelf.Lists.{length-push, take-more, take-all, take-at, joined-more}
+use Rattle.std.proofs.shelf.Lists.{length-push, take-more, take-all, joined-more}
 use Rattle.std.proofs.shelf.Elements.{all-from-getD}
 use Rattle.text.specs.declared.pages.Page.{Page}
-use Rattle.text.specs.Fields.{fielded, Short, Stroke}
+use Rattle.text.specs.Fields.{fielded, Short}
 use Rattle.text.specs.Pages.{page-text, Appended}
 use Rattle.text.proofs.Chaining.{fielded-short, decimal-short}
 use Rattle.text.proofs.Appending.{take-front, appended-then, appended-same}
@@ -22,7 +21,7 @@ use Rattle.book.specs.declared.rules.RightSide.the-variants.{Cut, Pair}
 use Rattle.book.specs.declared.rules.Rule.{Rule}
 use Rattle.book.specs.declared.books.Book.{Book}
 use Rattle.book.specs.Ranges.{InRange, lettered, Lawful}
-use Rattle.book.specs.Statements.{Said, parts, rule, written-rule, rule-text, ShortSide, Spelled}
+use Rattle.book.specs.Statements.{parts, rule, written-rule, rule-text, ShortSide, Spelled}
 use Rattle.book.specs.Writing.{ended-line, written, book-text}
 
 pub lawful-of : (b : Book) → Lawful (b .parts) (vec-items (b .rules))

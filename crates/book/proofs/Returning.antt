@@ -1,8 +1,8 @@
 -- What is written reads back the same: the text of a book tells that book. Assumes nothing.
 use mathlib.Core.Path.{_≡_, refl, sym, ap, subst, _∙_}
 use mathlib.Core.List.{List, [], _∷_, _++_, map, append-assoc}
-use mathlib.Core.Logic.{_⊎_, inl, inr}
-use Prim.Native.Nat.{ℕ, _-_, _<_, _≤_}
+use mathlib.Core.Logic.{inr}
+use Prim.Native.Nat.{ℕ, _-_, _≤_}
 use native.Mathlib.Nat.{sub-zero}
 use native.Mathlib.Omega.{arith}
 use lib.ListN.{length, take, drop, length-append}
@@ -10,13 +10,10 @@ use Rattle.std.specs.shelf.Lists.{All, joined}
 use Rattle.std.specs.Written.{decimal}
 use Rattle.std.specs.Of.Vec.{vec-items}
 use Rattle.std.specs.declared.option.Option.the-variants.{Some}
-use Rattle.std.specs.declared.result.Result.{Result}
 use Rattle.std.specs.declared.result.Result.the-variants.{Ok, Err}
 use Rattle.std.proofs.shelf.Lists.{take-at}
 use Rattle.refusal.specs.declared.Fault.{Fault}
-use Rattle.refusal.specs.declared.Refusal.{Refusal}
-use Rattle.refusal.specs.declared.Refusal.the-variants.{OutOfMemory, LentTooShort}
-use Rattle.text.specs.Fields.{fielded, Short, Stroke, Lacks}
+use Rattle.text.specs.Fields.{fielded, Short, Lacks}
 use Rattle.text.specs.Lines.{Starts}
 use Rattle.text.specs.Reading.{Ending, stated, Ends}
 use Rattle.text.proofs.Cutting.{decimal-lacks}
@@ -26,8 +23,8 @@ use Rattle.book.specs.declared.rules.RightSide.the-variants.{Cut, Pair}
 use Rattle.book.specs.declared.rules.Rule.{Rule}
 use Rattle.book.specs.declared.books.Book.{Book}
 use Rattle.book.specs.Ranges.{Lawful}
-use Rattle.book.specs.Statements.{Said, parts, rule, written-rule, rule-text, ShortSide, States, Stated, book-form}
-use Rattle.book.specs.Texts.{Listed, without-notes, Tells, stated-in, no-memory, Agrees, Told}
+use Rattle.book.specs.Statements.{parts, rule, written-rule, rule-text, ShortSide, Stated, book-form}
+use Rattle.book.specs.Texts.{Listed, without-notes, Tells, Agrees, Told}
 use Rattle.book.specs.Writing.{ended-line, written, book-text, Wrote, ReadBack}
 use Rattle.book.proofs.Telling.{tells-accepted}
 use Rattle.book.proofs.Putting.{Fits, all-fit, written-short, lawful-of}
@@ -88,6 +85,3 @@ module _ (b : Book) (n : ℕ) (before after : List ℕ) (w : Wrote (book-text b)
 
   pub again-none : (f : Fault) → Told (take (n - 0) after) (Err f) → ReadBack b before (Err (f .refusal)) after
   again-none f told = inr (sym (ap (λ (x : Fault). x .refusal) (told _ _ tells)), pasted)
-
-pub too-short : (b : Book) (before : List ℕ) (r : Refusal) (after : List ℕ) → Wrote (book-text b) before (Err r) after → ReadBack b before (Err r) after
-too-short b before r after w = inl w

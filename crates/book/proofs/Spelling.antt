@@ -1,24 +1,20 @@
 -- A line states one thing only: its letter tells the kind, and its fields tell the rest. Assumes nothing.
 use mathlib.Core.Path.{_≡_, refl, sym, ap, subst, _∙_}
-use mathlib.Core.List.{List, [], _∷_, _++_, map}
-use mathlib.Core.Logic.{_⊎_, inl, inr, ⊎-elim}
-use Prim.Native.Nat.{ℕ, _-_, _<_, _≤_, _^_}
+use mathlib.Core.List.{List, [], _∷_}
+use mathlib.Core.Logic.{inl, inr}
+use Prim.Native.Nat.{ℕ, _-_}
 use native.Mathlib.Omega.{arith}
-use lib.ListN.{length, getD, take, drop}
-use Rattle.std.specs.shelf.Lists.{All}
+use lib.ListN.{length, getD}
 use Rattle.std.specs.Written.{decimal}
-use Rattle.std.specs.declared.result.Result.the-variants.{Ok, Err}
 use Rattle.std.proofs.shelf.Decimals.{same-from-decimal}
-use Rattle.std.proofs.shelf.Parts.{first-rest}
-use Rattle.refusal.specs.declared.Refusal.the-variants.{UnknownLine, MalformedField}
-use Rattle.text.specs.Fields.{fielded, numbered, Numbered, NumberField, StrokeField, Short, Stroke, Lacks}
-use Rattle.text.specs.Reading.{OneOf, Known, Plain}
+use Rattle.text.specs.Fields.{fielded, Numbered, NumberField, StrokeField, Short, Stroke, Lacks}
+use Rattle.text.specs.Reading.{Known, Plain}
 use Rattle.text.proofs.Cutting.{decimal-lacks}
-use Rattle.text.proofs.Chaining.{fielded-unique, number-first, stroke-first, past-number, past-stroke, front-number, front-stroke}
+use Rattle.text.proofs.Chaining.{fielded-unique, front-number, front-stroke}
 use Rattle.book.specs.declared.rules.RightSide.{RightSide}
 use Rattle.book.specs.declared.rules.RightSide.the-variants.{Cut, Pair}
 use Rattle.book.specs.declared.rules.Rule.{Rule}
-use Rattle.book.specs.Statements.{Said, parts, rule, note, written-rule, rule-text, line-text, ShortSide, Spelled, States, book-form}
+use Rattle.book.specs.Statements.{Said, parts, rule, note, written-rule, line-text, ShortSide, States, book-form}
 
 -- two lines with different letters
 clash : {A : Type 0} (a b : ℕ) {r s bs : List ℕ} → (a ≡ b → ⊥) → a ∷ r ≡ bs → b ∷ s ≡ bs → A

@@ -1,11 +1,11 @@
 -- What stands after the first lines of a text: it keeps to a book's ranges. Assumes nothing.
-use mathlib.Core.Path.{_≡_, refl, sym, ap, subst, _∙_}
+use mathlib.Core.Path.{_≡_, refl, sym, subst}
 use mathlib.Core.Bool.{true}
 use mathlib.Core.List.{List, [], _∷_, _++_}
-use mathlib.Core.Logic.{_⊎_, inl, inr, ⊎-elim}
+use mathlib.Core.Logic.{inl, inr}
 use Prim.Native.Nat.{ℕ, _+_, _<_, _≤_}
 use native.Mathlib.Omega.{arith}
-use lib.ListN.{length, getD}
+use lib.ListN.{length}
 use Rattle.std.specs.declared.option.Option.{Option}
 use Rattle.std.specs.declared.option.Option.the-variants.{Some, None}
 use Rattle.std.proofs.shelf.Elements.{every-push}
@@ -15,7 +15,7 @@ use Rattle.std.specs.declared.result.Result.the-variants.{Err}
 use Rattle.refusal.specs.declared.Fault.{Fault}
 use Rattle.refusal.specs.declared.Refusal.{Refusal}
 use Rattle.refusal.specs.declared.Refusal.the-variants.{NoRule}
-use Rattle.text.specs.Reading.{Leads, Reads, Reached, Refused, Accepted, RefusedAt, Ends, stated, refused, Passes}
+use Rattle.text.specs.Reading.{Leads, Reads, Refused, Ends, stated, refused, Passes}
 use Rattle.text.proofs.Cutting.{starts-shorter}
 use Rattle.text.proofs.Endings.{reads-more}
 use Rattle.book.specs.declared.rules.RightSide.{RightSide}
@@ -63,9 +63,6 @@ pub record Sofar (text : List ℕ) (number : ℕ) (sum : Stated) (rest : List �
   pub place : number ≡ length before + 1
   pub reads : Reads book-form before (book-form .blank) text sum rest
   pub fits : number + length rest ≤ length text + 1
-
-pub sofar-none : (text : List ℕ) → Sofar text 1 (book-form .blank) text
-sofar-none text = record { before = []; place = refl; reads = (refl, refl); fits = omega arith }
 
 pub sofar-more : {text : List ℕ} {number : ℕ} {sum : Stated} {rest : List ℕ} (said : Said) (next : Stated) (after : List ℕ) → Sofar text number sum rest → Leads book-form sum rest said after → next ≡ stated-after sum said → Sofar text (number + 1) next after
 sofar-more {text} {number} {sum} {rest} said next after s l e = record {

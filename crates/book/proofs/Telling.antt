@@ -2,26 +2,25 @@
 use mathlib.Core.Path.{_≡_, refl, sym, ap, subst, _∙_}
 use mathlib.Core.List.{List, [], _∷_, _++_, map, append-assoc, append-nil}
 use mathlib.Core.Logic.{_⊎_, inl, inr, ⊎-elim}
-use Prim.Native.Nat.{ℕ, _+_, _<_, _≤_}
+use Prim.Native.Nat.{ℕ, _+_, _≤_}
 use native.Mathlib.Omega.{arith}
-use lib.ListN.{length, getD}
+use lib.ListN.{length}
 use Rattle.std.specs.shelf.Lists.{All}
 use Rattle.std.specs.Of.Vec.{vec-items}
-use Rattle.std.specs.declared.option.Option.{Option}
-use Rattle.std.specs.declared.option.Option.the-variants.{Some, None}
+use Rattle.std.specs.declared.option.Option.the-variants.{Some}
 use Rattle.std.specs.declared.result.Result.{Result}
 use Rattle.std.specs.declared.result.Result.the-variants.{Ok, Err}
 use Rattle.std.proofs.shelf.Lists.{length-push}
 use Rattle.std.proofs.shelf.Elements.{all-from-getD}
 use Rattle.refusal.specs.declared.Refusal.{Refusal}
 use Rattle.refusal.specs.declared.Fault.{Fault}
-use Rattle.text.specs.Reading.{Leads, Reads, Reached, Accepted, Ending, stated, refused, Ends}
+use Rattle.text.specs.Reading.{Reads, Accepted, Ending, stated, refused, Ends}
 use Rattle.text.proofs.Endings.{one-ending}
-use Rattle.book.specs.declared.rules.RightSide.the-variants.{Cut, Pair}
+use Rattle.book.specs.declared.rules.RightSide.the-variants.{Cut}
 use Rattle.book.specs.declared.rules.Rule.{Rule}
 use Rattle.book.specs.declared.books.Book.{Book}
 use Rattle.book.specs.Ranges.{InRange, Lawful}
-use Rattle.book.specs.Statements.{Said, parts, rule, note, Stated, stated-after, book-form}
+use Rattle.book.specs.Statements.{Said, parts, rule, note, Stated, book-form}
 use Rattle.book.specs.Texts.{Listed, without-notes, Tells, stated-in, in-book, no-memory, WantsMemory, Outcome, Agrees, Told}
 use Rattle.book.proofs.Spelling.{book-plain}
 use Rattle.book.proofs.Standing.{Sound, reads-sound}

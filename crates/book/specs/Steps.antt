@@ -1,6 +1,6 @@
 -- What the steps of the reader do: one line read, one line added to what stands. Assumes nothing.
 use mathlib.Core.Path.{_≡_}
-use mathlib.Core.List.{List, [], _∷_, _++_}
+use mathlib.Core.List.{List}
 use mathlib.Core.Logic.{_⊎_}
 use denote.Ref.{RefT}
 use Prim.Native.Nat.{ℕ, _<_, _≤_}

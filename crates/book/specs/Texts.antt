@@ -73,11 +73,6 @@ Agrees (stated sum) (Err f) = f ≡ no-memory
 Agrees (refused r number) (Ok b) = ⊥
 Agrees (refused r number) (Err f) = (f ≡ in-book r number) ⊎ (f ≡ no-memory)
 
--- r is the book of k parts and these rules, unless there was no memory
-abbrev pub IsBook : ℕ → List Rule → Result Book Fault → Type 0
-IsBook k rules (Ok b) = (b .parts ≡ k) × (vec-items (b .rules) ≡ rules)
-IsBook k rules (Err f) = f ≡ no-memory
-
 -- an accepted text tells the book that was read
 abbrev pub Told : List ℕ → Result Book Fault → Type 0
 Told text (Ok b) = Tells text (b .parts) (vec-items (b .rules))

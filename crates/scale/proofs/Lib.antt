@@ -1,4 +1,3 @@
 pub mod Grades
-pub mod Orders
 pub mod TimeGrades
 pub mod Times

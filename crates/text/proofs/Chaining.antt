@@ -9,7 +9,7 @@ use Rattle.std.specs.Written.{decimal}
 use Rattle.std.proofs.shelf.Elements.{all-append, all-push, all-getD}
 use Rattle.std.proofs.shelf.Lists.{nil-from-length, take-all, take-more-set, at-drop-more, at-drop-all}
 use Rattle.std.proofs.shelf.Decimals.{length-decimal-le}
-use Rattle.text.specs.Fields.{Lacks, Ended, Field, NumberField, StrokeField, Numbered, numbered, fielded, Short, Stroke}
+use Rattle.text.specs.Fields.{Lacks, Ended, NumberField, StrokeField, Numbered, numbered, fielded, Short, Stroke}
 use Rattle.text.proofs.Cutting.{span-unique, number-unique, stroke-unique}
 
 fielded-ended : (fs : List (List ℕ)) → Ended 32 (fielded fs)

@@ -7,7 +7,6 @@ use native.Mathlib.Omega.{arith}
 use native.Mathlib.Nat.{sub-zero}
 use lib.ListN.{length, getD, take, drop, length-append}
 use Rattle.std.specs.Written.{decimal}
-use Rattle.std.specs.shelf.Lists.{All}
 use Rattle.std.proofs.shelf.Elements.{all-from-getD}
 use Rattle.std.proofs.shelf.Lists.{take-append-drop, drop-more, drop-all, take-rest, take-all}
 use Rattle.std.proofs.shelf.Tests.{cases-lt}

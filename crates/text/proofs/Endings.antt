@@ -1,8 +1,8 @@
 -- A text is read in one way only: the first line, what it states and the first test that fails are each one. Assumes nothing.
 use mathlib.Core.Path.{_≡_, refl, sym, ap, subst, _∙_}
 use mathlib.Core.List.{List, [], _∷_, _++_}
-use mathlib.Core.Logic.{_⊎_, inl, inr, ⊎-elim}
-use Prim.Native.Nat.{ℕ, _+_, _<_, _≤_}
+use mathlib.Core.Logic.{_⊎_, ⊎-elim}
+use Prim.Native.Nat.{ℕ, _+_, _<_}
 use native.Mathlib.Omega.{arith}
 use lib.ListN.{length}
 use Rattle.std.specs.declared.option.Option.{Option}
@@ -10,8 +10,8 @@ use Rattle.std.specs.declared.option.Option.the-variants.{Some, None}
 use Rattle.refusal.specs.declared.Refusal.{Refusal}
 use Rattle.refusal.specs.declared.Refusal.the-variants.{TextTooLong, UnknownLine, MalformedField}
 use Rattle.text.specs.Fields.{Lacks}
-use Rattle.text.specs.Lines.{Starts, After}
-use Rattle.text.specs.Reading.{Test, Passes, Fails, Form, Known, Leads, Reads, LineRefused, Refused, Reached, Accepted, RefusedAt, Ending, stated, refused, Ends, Plain, OneEnding}
+use Rattle.text.specs.Lines.{Starts}
+use Rattle.text.specs.Reading.{Test, Passes, Fails, Form, Known, Leads, Reads, LineRefused, Refused, RefusedAt, stated, refused, Ends, Plain, OneEnding}
 use Rattle.text.proofs.Cutting.{starts-unique, starts-has, starts-shorter}
 
 pub fails-unique : (ts : List Test) (r q : Refusal) → Fails ts r → Fails ts q → r ≡ q
@@ -32,11 +32,6 @@ module _ {Said Sum : Type 0} (form : Form Said Sum) where
   reads-more [] sum bs whole rest said after h l =
       (after, subst (λ s. Leads form s bs said after) (sym (h .0)) (subst (λ b. Leads form whole b said after) (sym (h .1)) l), (ap (λ s. form .adds s said) (h .0), refl))
   reads-more (one ∷ before) sum bs whole rest said after h l = (h .0, h .1, reads-more before _ _ whole rest said after (h .2) l)
-
-  -- the lines that were read are the first ones of the text
-  pub reads-after : (before : List Said) (sum : Sum) (bs : List ℕ) (whole : Sum) (rest : List ℕ) → Reads form before sum bs whole rest → After (length before) bs rest
-  reads-after [] sum bs whole rest h = h .1
-  reads-after (said ∷ before) sum bs whole rest h = (h .1 .line, h .0, h .1 .starts, reads-after before _ (h .0) whole rest (h .2))
 
   module _ (plain : Plain form) where
     -- a line that states something is neither of no known kind nor malformed

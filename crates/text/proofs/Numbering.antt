@@ -1,12 +1,12 @@
 -- The lines of a text by their numbers: what follows the first lines is one text only. Assumes nothing.
 use mathlib.Core.Path.{_≡_, refl, sym, ap, subst, _∙_}
-use mathlib.Core.List.{List, [], _∷_, _++_, append-nil}
-use Prim.Native.Nat.{ℕ, zero, suc, _+_, _-_, _<_, _≤_}
+use mathlib.Core.List.{List}
+use Prim.Native.Nat.{ℕ, zero, suc, _+_, _-_, _<_}
 use native.Mathlib.Omega.{arith}
 use lib.ListN.{length}
-use Rattle.text.specs.Fields.{Lacks, Ended}
-use Rattle.text.specs.Lines.{Starts, After, FirstLine, LineAt}
-use Rattle.text.proofs.Cutting.{starts-unique, starts-has, starts-shorter}
+use Rattle.text.specs.Fields.{Lacks}
+use Rattle.text.specs.Lines.{Starts, After, LineAt}
+use Rattle.text.proofs.Cutting.{starts-unique, starts-has}
 
 after-next : (n : ℕ) (text rest line next : List ℕ) → After n text rest → Starts rest line next → After (suc n) text next
 after-next zero text rest line next h s = (line, next, subst (λ t. Starts t line next) (sym h) s, refl)
@@ -27,13 +27,6 @@ after-unique : (n : ℕ) (text rest other : List ℕ) → After n text rest → 
 after-unique zero text rest other h g = sym h ∙ g
 after-unique (suc n) text rest other h g = after-unique n (g .1) rest other (subst (λ t. After n t rest) (starts-unique (h .2) (g .2) .1) (h .3)) (g .3)
 
--- the first line, ended by byte 10 or by the end
-pub first-ended : {bs line after : List ℕ} → Starts bs line after → FirstLine bs line
-first-ended {bs} {line} {after} s = record { some = omega (arith, starts-shorter s); tail = 10 ∷ after; whole = s .whole; apart = s .apart; ended = refl }
-
-pub first-last : {bs : List ℕ} → 0 < length bs → Lacks 10 bs → FirstLine bs bs
-first-last {bs} some l = record { some = some; tail = []; whole = append-nil bs; apart = l; ended = tt }
-
 -- no line of a number past the last
 pub line-past : (n number : ℕ) (text rest : List ℕ) → After n text rest → Lacks 10 rest → n + 1 < number → (line : List ℕ) → LineAt text number line → ⊥
 line-past n zero text rest h l lt line k = k
@@ -46,7 +39,3 @@ line-none n (suc m) text rest h e q line k =
     let same : m ≡ n = omega arith in
     let one : rest ≡ k .0 = after-unique n text rest (k .0) h (subst (λ i. After i text (k .0)) same (k .1)) in
     omega (arith, k .2 .some, ap length one)
-
-pub line-here : (n number : ℕ) (text rest line : List ℕ) → After n text rest → number ≡ n + 1 → FirstLine rest line → LineAt text number line
-line-here n zero text rest line h e f = absurd (omega arith)
-line-here n (suc m) text rest line h e f = let same : n ≡ m = omega arith in (rest, subst (λ i. After i text rest) same h, f)

@@ -1,17 +1,15 @@
 -- How a number's digits are read: the digits so far have the value so far. Assumes nothing.
-use mathlib.Core.Path.{_≡_, refl, sym, ap, subst, _∙_}
-use mathlib.Core.List.{List, [], _∷_}
-use mathlib.Core.Logic.{inl, inr, ⊎-elim}
+use mathlib.Core.Path.{_≡_, sym, ap, subst, _∙_}
+use mathlib.Core.List.{List}
+use mathlib.Core.Logic.{⊎-elim}
 use Prim.Native.Nat.{ℕ, _+_, _-_, _*_, _^_, _<_, _≤_}
 use native.Mathlib.Omega.{arith}
 use lib.ListN.{length, getD, take, length-take}
-use lib.Pow.{pow-mono}
 use Rattle.std.specs.Reads.{value, Digits}
-use Rattle.std.specs.Text.{In, digitValue}
-use Rattle.std.specs.Written.{decimal}
-use Rattle.std.proofs.shelf.Digits.{value-lt, value-more, digits-more}
+use Rattle.std.specs.Text.{In}
+use Rattle.std.proofs.shelf.Digits.{value-more, digits-more}
 use Rattle.std.proofs.shelf.Numerals.{Numerals, numerals-by-value, tells-digits, digit-at, value-short}
-use Rattle.std.proofs.shelf.Decimals.{decimal-value, digits-decimal, value-decimal, first-decimal, decimal-some, length-decimal-le, decimal-digit}
+use Rattle.std.proofs.shelf.Decimals.{decimal-value, digits-decimal, first-decimal, decimal-some, length-decimal-le}
 use Rattle.std.proofs.shelf.Tests.{cases-lt}
 use Rattle.std.proofs.shelf.Lists.{take-all}
 use Rattle.std.proofs.shelf.Text.{digitValue-digit}

@@ -1,5 +1,5 @@
 use mathlib.Core.Path.{refl}
-use mathlib.Core.Logic.{inl, inr}
+use mathlib.Core.Logic.{inl}
 use Rattle.std.specs.declared.result.Result.the-variants.{Err}
 use Rattle.book.specs.Texts.{Outcome}
 use Rattle.book.proofs.Telling.{only-ending, told-by}

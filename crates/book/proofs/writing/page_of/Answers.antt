@@ -1,4 +1,3 @@
-use mathlib.Core.Path.{ap, _∙_}
 use Rattle.book.proofs.Putting.{filled-start, filled-more, filled-at}
 use Rattle.book.proofs.writing.page_of.Needs as need
 

@@ -1,12 +1,6 @@
-use mathlib.Core.Path.{_≡_, subst, ap, sym, _∙_}
 use mathlib.Core.Logic.{⊎-elim}
-use Prim.Native.Nat.{_<_, _≤_}
-use borrow.Author.Needs.{needs}
 use native.Mathlib.Omega.{arith}
-use lib.ListN.{length, take}
-use Rattle.std.proofs.shelf.Lists.{take-all}
-use Rattle.text.proofs.Numerals.{writes-some, writes-short, writes-first, writes-digit, writes-value, digits-turn, digits-small, digits-end}
-use Rattle.text.specs.Fields.{Writes}
+use Rattle.text.proofs.Numerals.{writes-some, writes-short, writes-first, writes-digit, digits-turn, digits-small, digits-end}
 use Rattle.text.proofs.fields.number.Needs as need
 
 pub returns-then-field-eq0 : need.returns-then-field-eq0

@@ -1,8 +1,6 @@
-use mathlib.Core.Path.{_≡_, sym, ap, subst}
-use Prim.Native.Nat.{ℕ, suc, _+_, _-_}
+use Prim.Native.Nat.{_-_}
 use native.Mathlib.Omega.{arith}
-use Rattle.text.specs.Lines.{After, LineAt}
-use Rattle.text.proofs.Numbering.{after-more, line-past, line-none, line-here, first-ended, first-last}
+use Rattle.text.proofs.Numbering.{after-more, line-past, line-none}
 use Rattle.text.proofs.lines.line.Needs as need
 
 pub returns-in-Break-after : need.returns-in-Break-after

@@ -1,5 +1,3 @@
-use Rattle.std.specs.shelf.Lists.{All}
-use mathlib.Core.Path.{_≡_}
 use lib.ListN.{take}
 use Rattle.text.specs.Fields.{Lacks}
 use Rattle.text.proofs.lines.place.Given as given

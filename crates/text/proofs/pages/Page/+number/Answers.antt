@@ -1,4 +1,3 @@
-use mathlib.Core.Path.{subst}
 use native.Mathlib.Omega.{arith}
 use Rattle.text.proofs.Appending.{appended-then, appended-same, appended-from, last-digit, only-digit}
 use Rattle.text.proofs.pages.Page.+number.Needs as need
