@@ -1,18 +1,17 @@
 -- What is written reads back the same: the text of a book tells that book. Assumes nothing.
 use mathlib.Core.Path.{_≡_, refl, sym, ap, subst, _∙_}
 use mathlib.Core.List.{List, [], _∷_, _++_, map, append-assoc}
-use mathlib.Core.Logic.{inr}
-use Prim.Native.Nat.{ℕ, _-_, _≤_}
-use native.Mathlib.Nat.{sub-zero}
+use mathlib.Core.Logic.{inl, inr}
+use Prim.Native.Nat.{ℕ, _-_}
 use native.Mathlib.Omega.{arith}
-use lib.ListN.{length, take, drop, length-append}
+use lib.ListN.{drop}
 use Rattle.std.specs.shelf.Lists.{All, joined}
 use Rattle.std.specs.Written.{decimal}
 use Rattle.std.specs.Of.Vec.{vec-items}
 use Rattle.std.specs.declared.option.Option.the-variants.{Some}
 use Rattle.std.specs.declared.result.Result.the-variants.{Ok, Err}
-use Rattle.std.proofs.shelf.Lists.{take-at}
 use Rattle.refusal.specs.declared.Fault.{Fault}
+use Rattle.refusal.specs.declared.Refusal.{Refusal}
 use Rattle.text.specs.Fields.{fielded, Short, Lacks}
 use Rattle.text.specs.Lines.{Starts}
 use Rattle.text.specs.Reading.{Ending, stated, Ends}
@@ -62,26 +61,20 @@ written-tells k rules h =
       lawful = h;
     }
 
-module _ (b : Book) (n : ℕ) (before after : List ℕ) (w : Wrote (book-text b) before (Ok n) after) where
-  pub fits : n ≤ length after
-  fits = omega (arith, ap length (w .1), w .0, length-append (book-text b) (drop n before))
+module _ (b : Book) (text : List ℕ) (same : text ≡ book-text b) where
+  tells : Tells text (b .parts) (vec-items (b .rules))
+  tells = subst (λ t. Tells t (b .parts) (vec-items (b .rules))) (sym same) (written-tells _ _ (lawful-of b))
 
-  -- as the checker reads `&out[0..n]`
-  front : take (n - 0) after ≡ book-text b
-  front = ap (λ k. take k after) (sub-zero n) ∙ ap (take n) (w .1) ∙ take-at _ (drop n before) n (sym (w .0))
-
-  pasted : after ≡ book-text b ++ drop (length (book-text b)) before
-  pasted = w .1 ∙ ap (λ k. book-text b ++ drop k before) (w .0)
-
-  tells : Tells (take (n - 0) after) (b .parts) (vec-items (b .rules))
-  tells = subst (λ t. Tells t (b .parts) (vec-items (b .rules))) (sym front) (written-tells _ _ (lawful-of b))
-
-  pub again-same : (c : Book) → ((e : Ending Stated) → Ends book-form (take (n - 0) after) e → Agrees e (Ok c)) → ReadBack b before (Ok c) after
-  again-same c only =
-      let same = only (stated (record { parts = Some (b .parts); rules = vec-items (b .rules) })) (tells-accepted _ _ _ tells) in
-      let e = ap (λ (d : Stated). d .parts) same in
+  -- the text is read as the book, and is written
+  pub again-same : (c : Book) (n : ℕ) (before after : List ℕ) → ((e : Ending Stated) → Ends book-form text e → Agrees e (Ok c)) → Wrote (book-text b) before (Ok n) after → ReadBack b before (Ok c) after
+  again-same c n before after only w =
+      let sum = only (stated (record { parts = Some (b .parts); rules = vec-items (b .rules) })) (tells-accepted _ _ _ tells) in
+      let e = ap (λ (d : Stated). d .parts) sum in
       let k : c .parts ≡ b .parts = cc in
-      (k, sym (ap (λ (d : Stated). d .rules) same), pasted)
+      (k, sym (ap (λ (d : Stated). d .rules) sum), w .1 ∙ ap (λ m. book-text b ++ drop m before) (w .0))
 
-  pub again-none : (f : Fault) → Told (take (n - 0) after) (Err f) → ReadBack b before (Err (f .refusal)) after
-  again-none f told = inr (sym (ap (λ (x : Fault). x .refusal) (told _ _ tells)), pasted)
+  pub again-none : (f : Fault) (before : List ℕ) → Told text (Err f) → ReadBack b before (Err (f .refusal)) before
+  again-none f before told = (inl (sym (ap (λ (x : Fault). x .refusal) (told _ _ tells))), refl)
+
+pub too-short : (b : Book) (before : List ℕ) (r : Refusal) (after : List ℕ) → Wrote (book-text b) before (Err r) after → ReadBack b before (Err r) after
+too-short b before r after w = (inr (w .0, w .1), w .2)

@@ -30,10 +30,8 @@ abbrev pub Wrote : List ℕ → List ℕ → Result ℕ Refusal → List ℕ →
 Wrote text before (Ok n) after = (n ≡ length text) × (after ≡ text ++ drop n before)
 Wrote text before (Err r) after = (LentTooShort ≡ r) × (length before < length text) × (after ≡ before)
 
--- c is the book b again, and the text of b is at the front of after; or before is too short for it, and stays as it is;
--- or there was no memory for the book
+-- c is the book b again, and the text of b is at the front of after; or there was no memory for the book, or before is too
+-- short for the text, and before stays as it is
 abbrev pub ReadBack : Book → List ℕ → Result Book Refusal → List ℕ → Type 0
 ReadBack b before (Ok c) after = (c .parts ≡ b .parts) × (vec-items (c .rules) ≡ vec-items (b .rules)) × (after ≡ book-text b ++ drop (length (book-text b)) before)
-ReadBack b before (Err r) after =
-    ((LentTooShort ≡ r) × (length before < length (book-text b)) × (after ≡ before))
-    ⊎ ((OutOfMemory ≡ r) × (after ≡ book-text b ++ drop (length (book-text b)) before))
+ReadBack b before (Err r) after = ((OutOfMemory ≡ r) ⊎ ((LentTooShort ≡ r) × (length before < length (book-text b)))) × (after ≡ before)

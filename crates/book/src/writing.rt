@@ -63,16 +63,16 @@ pub fn write(book: &Book, out: &mut [u8]) -> Result<usize, Refusal>
     Ok(n)
 }
 
-// Writes the book's text at the front of `out` and reads it again: the same book.
+// Reads the book's text again, the same book, and writes it at the front of `out`; a refusal leaves `out` as it was.
 pub fn read_back(heap: Global, book: &Book, out: &mut [u8]) -> Result<Book, Refusal>
     ensures { λ r. ⌜ ReadBack (now (book .entry)) (now (out .entry)) r (now (out .exit)) ⌝ }
 {
-    let n = match write(book, out) {
-        Ok(n) => n,
-        Err(refusal) => return Err(refusal),
-    };
-    match read(heap, &out[0..n]) {
-        Ok(again) => Ok(again),
+    let page = page_of(book);
+    match read(heap, page.text()) {
         Err(fault) => Err(fault.refusal),
+        Ok(again) => match write(book, out) {
+            Ok(_) => Ok(again),
+            Err(refusal) => Err(refusal),
+        },
     }
 }
