@@ -1,5 +1,5 @@
 -- A line states one thing only: its letter tells the kind, and its fields tell the rest. Assumes nothing.
-use Rattle.std.proofs.Common.{◌≡◌, ℕ, ◌-◌, List, [], ◌∷◌, length, get_or, decimal, sym, refl, ap, ◌∙◌, subst, inl, inr, arith}
+use Rattle.std.proofs.Common.{◌≡◌, ℕ, List, [], ◌∷◌, length, get_or, decimal, sym, refl, ap, ◌∙◌, subst, inl, inr, arith}
 use Rattle.std.proofs.lemmas.Fmt.{decimal_injective}
 use Rattle.text.specs.Fields.{fielded, Numbered, NumberField, StrokeField, Short, Stroke, Lacks}
 use Rattle.text.specs.Reading.{Known, Plain}

@@ -1,4 +1,6 @@
 // The rule book: what it holds, how its text is read and how it is written.
+#![tactic(auto)]
+
 mod books;
 mod reading;
 mod rules;

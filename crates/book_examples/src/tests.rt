@@ -68,11 +68,11 @@ fn refused(
     line: usize,
 ) -> Result<(), Fail> {
     match read(heap, text) {
-        Ok(_) => Err(Fail::new("the book is accepted")),
+        Ok(_) => panic!(rt; "the book is accepted: {text:?}"),
         Err(fault) => {
-            assert_eq!(rt; fault.number(), number);
-            assert_eq!(rt; fault.layer(), layer);
-            assert_eq!(rt; fault.line, line);
+            assert_eq!(rt; fault.number(), number, "the text {text:?}");
+            assert_eq!(rt; fault.layer(), layer, "the text {text:?}");
+            assert_eq!(rt; fault.line, line, "the text {text:?}");
             Ok(())
         }
     }
@@ -87,7 +87,7 @@ fn all_refused(
     cases: &[(&[u8], usize)],
 ) -> Result<(), Fail> {
     for (text, line) in cases {
-        refused(rt, heap, text, number, layer, *line).note(format_args!("the text {text:?}"))?;
+        refused(rt, heap, text, number, layer, *line)?;
     }
     Ok(())
 }

@@ -1,5 +1,7 @@
 // Reads book.txt and prints how many parts and rules it has and then the book as it is written, or the refusal and the
 // faulty line.
+#![tactic(auto)]
+
 use anyhow::anyhow;
 use report::{Report, book_report};
 use std::fs;

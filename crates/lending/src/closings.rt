@@ -6,8 +6,8 @@ use sheet::Sheet;
 
 // Closes every stroke of the place but the one.
 pub fn close_all_but<S: Sheet>(sheet: &mut S, place: usize, stroke: u8)
-    ensures pairs { shown sheet.new ≡ only_at (shown sheet.old) place stroke }
-    ensures memory { kept sheet.old sheet.new }
+    ensures pairs { S.shown sheet.new ≡ only_at (S.shown sheet.old) place stroke }
+    ensures memory { S.kept sheet.old sheet.new }
 {
     for letter in b'A'..=b'Z' {
         if letter != stroke {

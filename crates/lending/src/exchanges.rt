@@ -6,9 +6,9 @@ use sheet::Sheet;
 
 // Closes the stroke at the place, if it is open there, and then opens the other one. Answers whether the stroke was open.
 pub fn exchange<S: Sheet>(sheet: &mut S, place: usize, stroke: u8, other: u8) -> bool
-    ensures answer { result ≡ shown sheet.old place stroke }
-    ensures pairs { shown sheet.new ≡ exchanged (places sheet.old) (shown sheet.old) place stroke other }
-    ensures memory { kept sheet.old sheet.new }
+    ensures answer { result ≡ S.shown sheet.old place stroke }
+    ensures pairs { S.shown sheet.new ≡ exchanged (S.places sheet.old) (S.shown sheet.old) place stroke other }
+    ensures memory { S.kept sheet.old sheet.new }
 {
     let was_open = sheet.close(place, stroke);
     if was_open {

@@ -1,4 +1,6 @@
 // Code over any sheet, and callers who lend it masks or a card: they know every number and every byte afterwards.
+#![tactic(auto)]
+
 mod cards;
 mod closings;
 mod exchanges;

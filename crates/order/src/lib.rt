@@ -1,4 +1,6 @@
 // The order: a limit and the open strokes of each place, read from its text into the memory of a sheet.
+#![tactic(auto)]
+
 mod filling;
 mod letters;
 mod limits;

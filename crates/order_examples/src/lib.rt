@@ -1,3 +1,5 @@
 // Orders at the edges, and what is said of them.
+#![tactic(auto)]
+
 #[cfg(test)]
 mod tests;

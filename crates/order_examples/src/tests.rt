@@ -19,14 +19,14 @@ fn refused(
 ) -> Result<(), Fail> {
     let mut memory = [7u32; 20];
     match read(text, &mut memory) {
-        Ok(_) => return Err(Fail::new("the order is accepted")),
+        Ok(_) => panic!(rt; "the order is accepted: {text:?}"),
         Err(fault) => {
-            assert_eq!(rt; fault.number(), number);
-            assert_eq!(rt; fault.layer(), layer);
-            assert_eq!(rt; fault.line, line);
+            assert_eq!(rt; fault.number(), number, "the text {text:?}");
+            assert_eq!(rt; fault.layer(), layer, "the text {text:?}");
+            assert_eq!(rt; fault.line, line, "the text {text:?}");
         }
     }
-    assert_eq!(rt; memory, [7; 20]);
+    assert_eq!(rt; memory, [7; 20], "the text {text:?}");
     Ok(())
 }
 
@@ -38,7 +38,7 @@ fn all_refused(
     cases: &[(&[u8], usize)],
 ) -> Result<(), Fail> {
     for (text, line) in cases {
-        refused(rt, text, number, layer, *line).note(format_args!("the text {text:?}"))?;
+        refused(rt, text, number, layer, *line)?;
     }
     Ok(())
 }

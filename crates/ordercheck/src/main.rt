@@ -1,5 +1,7 @@
 // Reads an order on standard input and prints its limit and each place with its open strokes, or the refusal and the
 // faulty line.
+#![tactic(auto)]
+
 use anyhow::anyhow;
 use report::{Report, order_report};
 use std::io::{Read, Write};

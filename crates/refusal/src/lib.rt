@@ -1,4 +1,6 @@
 // Why a call is refused, and where: one case for each refusal, the layer it belongs to and the line at fault.
+#![tactic(auto)]
+
 ghost use Rattle.std.specs.Prelude.{◌≡◌, Some};
 ghost use Rattle.refusal.specs.Numbers.{number_of};
 ghost use Rattle.refusal.specs.Layers.{layer_of, layer_name, source_layer};

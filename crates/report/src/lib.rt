@@ -1,4 +1,6 @@
 // What the programs print, made as bytes so that it is proved and compared before it is printed.
+#![tactic(auto)]
+
 ghost use Rattle.std.specs.Prelude.{◌≡◌, ℕ, List, IfOk};
 ghost use Rattle.report.specs.Reports.{FaultShown, book_summary, BookReport};
 

@@ -11,7 +11,7 @@ use text::Page;
 
 // The limit, and then each place of the sheet with its open strokes.
 pub fn order_summary<S: Sheet>(heap: Global, limit: Limit, sheet: &S) -> Result<Vec<u8>, AllocError>
-    ensures { IfOk result (λ v. v.items ≡ order_summary limit (shown sheet.now) (places sheet.now)) }
+    ensures { IfOk result (λ v. v.items ≡ order_summary limit (S.shown sheet.now) (S.places sheet.now)) }
 {
     let mut page = Page::new();
     put_sheet(&mut page, sheet);

@@ -8,7 +8,7 @@ use text::Page;
 
 // Puts the stroke on the page if it is open at the place.
 fn put_stroke<S: Sheet>(page: &mut Page, sheet: &S, place: usize, stroke: u8)
-    ensures { Appended page.old (if_open (shown sheet.now) place stroke) page.new }
+    ensures { Appended page.old (if_open (S.shown sheet.now) place stroke) page.new }
 {
     if sheet.look(place, stroke) {
         page.push(stroke);
@@ -17,7 +17,7 @@ fn put_stroke<S: Sheet>(page: &mut Page, sheet: &S, place: usize, stroke: u8)
 
 // Puts the open strokes of the place on the page, in the order of the alphabet.
 fn put_strokes<S: Sheet>(page: &mut Page, sheet: &S, place: usize)
-    ensures { Appended page.old (open_letters (shown sheet.now) place 26) page.new }
+    ensures { Appended page.old (open_letters (S.shown sheet.now) place 26) page.new }
 {
     for k in 0..26u8 {
         put_stroke(page, sheet, place, b'A' + k);
@@ -27,7 +27,7 @@ fn put_strokes<S: Sheet>(page: &mut Page, sheet: &S, place: usize)
 // Puts the line of the place on the page: its number, a space, and its open strokes.
 fn put_place<S: Sheet>(page: &mut Page, sheet: &S, place: usize)
     requires { place ≤ 24 }
-    ensures { Appended page.old (place_line (shown sheet.now) place) page.new }
+    ensures { Appended page.old (place_line (S.shown sheet.now) place) page.new }
 {
     page.number(place as u32);
     page.push(b' ');
@@ -37,7 +37,7 @@ fn put_place<S: Sheet>(page: &mut Page, sheet: &S, place: usize)
 
 // Puts a line for each place of the sheet on the page.
 pub fn put_sheet<S: Sheet>(page: &mut Page, sheet: &S)
-    ensures { Appended page.old (sheet_text (shown sheet.now) (places sheet.now)) page.new }
+    ensures { Appended page.old (sheet_text (S.shown sheet.now) (S.places sheet.now)) page.new }
 {
     for i in 0..sheet.length() {
         put_place(page, sheet, i + 1);

@@ -1,4 +1,6 @@
 // What a price is: a value of a scale. The three scales that prices are counted in are `Time`, `Grade` and `TimeGrade`.
+#![tactic(auto)]
+
 ghost use Rattle.std.specs.Prelude.{◌≡◌, Decides};
 ghost use Rattle.scale.specs.Ops.{Ops, Laws, lesser_of};
 

@@ -1,5 +1,5 @@
 -- What a list of numbers means as a sheet: the bit 0 is A and the bit 25 is Z. Assumes nothing.
-use Rattle.std.specs.Prelude.{◌≡◌, ℕ, ◌+◌, ◌-◌, ◌*◌, ◌/◌, ◌%◌, ◌^◌, ◌≤◌, min, Bool, ◌&&◌, List, length, set, ◌==◌, bit_xor, slice_index, slice_set}
+use Rattle.std.specs.Prelude.{◌≡◌, ℕ, ◌+◌, ◌-◌, ◌*◌, ◌/◌, ◌%◌, ◌^◌, ◌≤◌, min, Bool, ◌&&◌, List, length, ◌==◌, bit_xor, slice_index, slice_set}
 use Rattle.sheet.specs.Pairs.{Pairs, in_range}
 
 -- whether the bit k of the number is set

@@ -1,4 +1,6 @@
 // What a sheet is: the open pairs of a place and a stroke. Sheets on masks, sheets on a card, and the strike.
+#![tactic(auto)]
+
 ghost use Rattle.std.specs.Prelude.{◌≡◌, ℕ, not, ◌&&◌};
 ghost use Rattle.sheet.specs.Laws.{Laws};
 ghost use Rattle.sheet.specs.Pairs.{Pairs, in_range, closed_at, opened_at};

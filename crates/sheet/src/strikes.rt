@@ -9,9 +9,9 @@ use refusal::Refusal;
 // Closes the stroke at the place. Refused, in this order, for a place that the sheet does not have, for a byte that is no
 // stroke and for a stroke that is not open there; the sheet is then as it was.
 pub fn strike<S: Sheet>(sheet: &mut S, place: usize, stroke: u8) -> Result<(), Refusal>
-    ensures answer { result ≡ struck (places sheet.old) (shown sheet.old) place stroke }
-    ensures after { MatchResult result (λ _. shown sheet.new ≡ closed_at (shown sheet.old) place stroke) (λ _. sheet.new ≡ sheet.old) }
-    ensures memory { kept sheet.old sheet.new }
+    ensures answer { result ≡ struck (S.places sheet.old) (S.shown sheet.old) place stroke }
+    ensures after { MatchResult result (λ _. S.shown sheet.new ≡ closed_at (S.shown sheet.old) place stroke) (λ _. sheet.new ≡ sheet.old) }
+    ensures memory { S.kept sheet.old sheet.new }
 {
     if place == 0 || place > sheet.length() {
         return Err(Refusal::NoSuchPlace);

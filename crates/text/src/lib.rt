@@ -1,5 +1,7 @@
 // What the texts of books and orders are made of: lines and their kinds, fields, numbers, and the line at fault; and a
 // page on which such a text is put together.
+#![tactic(auto)]
+
 mod fields;
 mod kinds;
 mod lines;

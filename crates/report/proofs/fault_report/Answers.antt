@@ -7,6 +7,6 @@ returns c = inl (
   _,
   c.in-Some.ensures,
   two_lines _
-      (ap vec_items c.into-bytes-out.ensures.value ∙ c.in-ok-to-string.ensures.ok)
-      c.in-ok-push.ensures.items c.in-ok-extend-from-slice.ensures.items c.in-ok-push-2.ensures.items,
+      (ap vec_items c.into_bytes-out.ensures.value ∙ c.in_ok-to_string.ensures.ok)
+      c.in_ok-push.ensures.items c.in_ok-extend_from_slice.ensures.items c.in_ok-push-2.ensures.items,
 )

@@ -7,7 +7,7 @@ use Rattle.report.proofs.summary.Goals as goal
 pub returns : goal.returns
 returns c =
     headed (heading c.args.book.now) (book_text c.args.book.now)
-    (ap vec_items c.into-bytes-out.ensures.value ∙ c.in-ok-format.ensures.ok
+    (ap vec_items c.into_bytes-out.ensures.value ∙ c.in_ok-format.ensures.ok
     ∙ (λ i. codes "parts " ++ (decimal (c.parts-parts.ensures i) ++ (codes "\nrules " ++ (decimal (length (c.rules.ensures i)) ++ codes "\n")))))
-    (c.text.ensures ∙ c.page-of.ensures)
-    c.in-ok-extend-from-slice.ensures.items
+    (c.text.ensures ∙ c.page_of.ensures)
+    c.in_ok-extend_from_slice.ensures.items

@@ -10,5 +10,5 @@ returns-then-text-gt8192 c =
 
 pub returns : goal.returns
 returns c =
-    let o = c.read-lines.ensures in
-    record { outcome = o; only = only_ending c.args.text.now c.read-lines.result o; told = told_by c.args.text.now c.read-lines.result o }
+    let o = c.read_lines.ensures in
+    record { outcome = o; only = only_ending c.args.text.now c.read_lines.result o; told = told_by c.args.text.now c.read_lines.result o }

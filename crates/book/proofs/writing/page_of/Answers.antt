@@ -5,7 +5,7 @@ pub loop-rule-init : goal.loop-rule-init
 loop-rule-init c = (filled_start _ _ c.new-page.ensures c.push.ensures c.field.ensures c.push-2.ensures, c.rules-rule-items.ensures)
 
 pub loop-rule-preserved : goal.loop-rule-preserved
-loop-rule-preserved c = (filled_more _ c.loop-rule.invariant.0 c.loop-rule-test.true c.put-rule.ensures, c.loop-rule.invariant.1)
+loop-rule-preserved c = (filled_more _ c.loop-rule.invariant.0 c.loop-rule-test.true c.put_rule.ensures, c.loop-rule.invariant.1)
 
 pub returns : goal.returns
 returns c = filled_at c.args.book.now c.loop-rule.invariant.0 c.loop-rule.invariant.1 c.loop-rule-test.false

@@ -2,4 +2,4 @@ use Rattle.lending.proofs.LentMasks.{mask_only}
 use Rattle.lending.proofs.masks.only_masks.Goals as goal
 
 pub returns : goal.returns
-returns c = mask_only _ _ _ _ c.only-lent.ensures.rest c.only-lent.ensures.pairs
+returns c = mask_only _ _ _ _ c.only_lent.ensures.rest c.only_lent.ensures.pairs

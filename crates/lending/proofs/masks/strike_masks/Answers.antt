@@ -9,7 +9,7 @@ returns c =
     let before = c.args.masks.now in
     let p = c.args.place in
     let d = c.args.stroke in
-    let made = c.strike-lent.ensures in
+    let made = c.strike_lent.ensures in
     record {
       answer = made.answer;
       memory = struck_memory mask_places mask_shown Rest mask_pins before _ _ p d _ (flip_closes before p d) made.answer made.after made.rest;

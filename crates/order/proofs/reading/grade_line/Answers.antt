@@ -1,8 +1,8 @@
 use Rattle.order.proofs.Spelling.{no_grade, is_grade}
 use Rattle.order.proofs.reading.grade_line.Goals as goal
 
-pub returns-in-err-grade : goal.returns-in-err-grade
-returns-in-err-grade c = rw c.from-residual.ensures (no_grade _ c.in-err-grade.ensures)
+pub returns-in_err-grade : goal.returns-in_err-grade
+returns-in_err-grade c = rw c.from_residual.ensures (no_grade _ c.in_err-grade.ensures)
 
 pub returns : goal.returns
-returns c = is_grade c.in-ok-grade.ensures
+returns c = is_grade c.in_ok-grade.ensures

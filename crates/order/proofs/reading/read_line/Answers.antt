@@ -7,14 +7,14 @@ use Rattle.order.proofs.Spelling.{order_letters}
 use Rattle.order.proofs.reading.read_line.Goals as goal
 use Rattle.order.proofs.reading.read_line.Goals.{in-TimeLimit, in-GradeLimit, in-BothLimit, in-Place}
 
-pub returns-in-default : goal.returns-in-default
-returns-in-default c = unknown_line order_form said_by c.args.line.now order_letters c.in-default.ensures
+pub returns-in_default : goal.returns-in_default
+returns-in_default c = unknown_line order_form said_by c.args.line.now order_letters c.in_default.ensures
 
 pub returns : goal.returns
 returns c =
-    rw c.ok-or.ensures.value (elim c.match-kind.branch [
-      | in-TimeLimit w ↦ rw w.stated-is (kind_read order_form said_by _ _ TimeLimit _ _ c.in-Some.ensures w.in-TimeLimit.is (inl refl) w.time-line-stated.ensures)
-      | in-GradeLimit w ↦ rw w.stated-is (kind_read order_form said_by _ _ GradeLimit _ _ c.in-Some.ensures w.in-GradeLimit.is (inr (inl refl)) w.grade-line-stated.ensures)
-      | in-BothLimit w ↦ rw w.stated-is (kind_read order_form said_by _ _ BothLimit _ _ c.in-Some.ensures w.in-BothLimit.is (inr (inr (inl refl))) w.both-line-stated.ensures)
-      | in-Place w ↦ rw w.stated-is (kind_read order_form said_by _ _ Place _ _ c.in-Some.ensures w.in-Place.is (inr (inr (inr (inl refl)))) w.place-line-stated.ensures)
+    rw c.ok_or.ensures.value (elim c.match-kind.branch [
+      | in-TimeLimit w ↦ rw w.stated-is (kind_read order_form said_by _ _ TimeLimit _ _ c.in-Some.ensures w.in-TimeLimit.is (inl refl) w.time_line-stated.ensures)
+      | in-GradeLimit w ↦ rw w.stated-is (kind_read order_form said_by _ _ GradeLimit _ _ c.in-Some.ensures w.in-GradeLimit.is (inr (inl refl)) w.grade_line-stated.ensures)
+      | in-BothLimit w ↦ rw w.stated-is (kind_read order_form said_by _ _ BothLimit _ _ c.in-Some.ensures w.in-BothLimit.is (inr (inr (inl refl))) w.both_line-stated.ensures)
+      | in-Place w ↦ rw w.stated-is (kind_read order_form said_by _ _ Place _ _ c.in-Some.ensures w.in-Place.is (inr (inr (inr (inl refl)))) w.place_line-stated.ensures)
     ])

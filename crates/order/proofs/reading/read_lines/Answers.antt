@@ -21,4 +21,4 @@ returns-in-Some c =
     ends_stated s c.requires (omega arith) (refl, tt)
 
 pub returns-in-None : goal.returns-in-None
-returns-in-None c = (_, _, c.in-order-in-None.ensures, ends_failed c.loop-rest.invariant c.requires LimitMisplaced (omega arith) (without_limit (stated_by c.loop-rest.draft) c.in-None.is))
+returns-in-None c = (_, _, c.in_order-in-None.ensures, ends_failed c.loop-rest.invariant c.requires LimitMisplaced (omega arith) (without_limit (stated_by c.loop-rest.draft) c.in-None.is))

@@ -10,6 +10,6 @@ returns g c =
     let s = g.S.Sheet in
     let sheet = c.args.sheet.now in
     headed (codes "limit " ++ (limit_name c.args.limit ++ codes "\n")) (sheet_text (s.shown sheet) (s.places sheet))
-    (ap vec_items c.into-bytes-out.ensures.value ∙ c.in-ok-format.ensures.ok)
-    (c.text.ensures ∙ alone (s.shown sheet) (s.places sheet) (s.laws.few sheet) c.new-page.ensures c.put-sheet.ensures)
-    c.in-ok-extend-from-slice.ensures.items
+    (ap vec_items c.into_bytes-out.ensures.value ∙ c.in_ok-format.ensures.ok)
+    (c.text.ensures ∙ alone (s.shown sheet) (s.places sheet) (s.laws.few sheet) c.new-page.ensures c.put_sheet.ensures)
+    c.in_ok-extend_from_slice.ensures.items

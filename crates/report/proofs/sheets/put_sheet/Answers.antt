@@ -7,11 +7,11 @@ use Rattle.report.proofs.sheets.put_sheet.Goals as goal
 pub loop-i-init : goal.loop-i-init
 loop-i-init g c = appended_none c.args.page.now
 
-pub put-place-requires : goal.put-place-requires
-put-place-requires g c = omega (arith, g.S.Sheet.laws.few c.args.sheet.now)
+pub put_place-requires : goal.put_place-requires
+put_place-requires g c = omega (arith, g.S.Sheet.laws.few c.args.sheet.now)
 
 pub loop-i-preserved : goal.loop-i-preserved
-loop-i-preserved g c = appended_same (places_more (g.S.Sheet.shown c.args.sheet.now) c.loop-i.i) (appended_then c.loop-i.invariant c.put-place.ensures)
+loop-i-preserved g c = appended_same (places_more (g.S.Sheet.shown c.args.sheet.now) c.loop-i.i) (appended_then c.loop-i.invariant c.put_place.ensures)
 
 pub returns : goal.returns
 returns g c =

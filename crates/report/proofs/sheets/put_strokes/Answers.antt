@@ -8,7 +8,7 @@ pub loop-k-init : goal.loop-k-init
 loop-k-init g c = appended_none c.args.page.now
 
 pub loop-k-preserved : goal.loop-k-preserved
-loop-k-preserved g c = appended_same (strokes_more (g.S.Sheet.shown c.args.sheet.now) c.args.place c.loop-k.k) (appended_then c.loop-k.invariant c.put-stroke.ensures)
+loop-k-preserved g c = appended_same (strokes_more (g.S.Sheet.shown c.args.sheet.now) c.args.place c.loop-k.k) (appended_then c.loop-k.invariant c.put_stroke.ensures)
 
 pub returns : goal.returns
 returns g c =

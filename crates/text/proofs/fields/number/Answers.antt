@@ -14,11 +14,11 @@ returns-then-field-gt1 c = λ n w. omega (arith, writes_first _ n w c.if-field-e
 pub returns-then-b-lt48 : goal.returns-then-b-lt48
 returns-then-b-lt48 c = λ n w. let h = writes_digit _ n w c.loop-b.b-index (omega arith) in grind arith
 
-pub overflow-mul-n : goal.overflow-mul-n
-overflow-mul-n c = omega (arith, digits_small _ _ _ c.loop-b-test.true c.if-field-gt6.false c.loop-b.invariant.0 c.loop-b.invariant.1)
+pub overflow_mul-n : goal.overflow_mul-n
+overflow_mul-n c = omega (arith, digits_small _ _ _ c.loop-b-test.true c.if-field-gt6.false c.loop-b.invariant.0 c.loop-b.invariant.1)
 
-pub overflow-add-n : goal.overflow-add-n
-overflow-add-n c = omega (arith, digits_small _ _ _ c.loop-b-test.true c.if-field-gt6.false c.loop-b.invariant.0 c.loop-b.invariant.1)
+pub overflow_add-n : goal.overflow_add-n
+overflow_add-n c = omega (arith, digits_small _ _ _ c.loop-b-test.true c.if-field-gt6.false c.loop-b.invariant.0 c.loop-b.invariant.1)
 
 pub loop-b-preserved : goal.loop-b-preserved
 loop-b-preserved c = digits_turn c.args.field.now c.loop-b.b-index c.loop-b.n c.loop-b-test.true (omega arith) c.loop-b.invariant.0 c.loop-b.invariant.1

@@ -2,11 +2,11 @@ use Rattle.std.proofs.Common.{arith}
 use Rattle.text.proofs.Numbering.{after_more, line_past, line_none}
 use Rattle.text.proofs.lines.line.Goals as goal
 
-pub returns-in-err-after : goal.returns-in-err-after
-returns-in-err-after c = rw c.from-residual.ensures (λ l h. line_past _ _ _ _ c.loop.invariant c.in-err-after.ensures (omega arith) l h)
+pub returns-in_err-after : goal.returns-in_err-after
+returns-in_err-after c = rw c.from_residual.ensures (λ l h. line_past _ _ _ _ c.loop.invariant c.in_err-after.ensures (omega arith) l h)
 
 pub loop-preserved : goal.loop-preserved
-loop-preserved c = after_more _ _ _ _ _ _ (omega arith) c.loop.invariant c.in-ok-after.ensures
+loop-preserved c = after_more _ _ _ _ _ _ (omega arith) c.loop.invariant c.in_ok-after.ensures
 
 pub returns-then-rest-eq0 : goal.returns-then-rest-eq0
 returns-then-rest-eq0 c = λ l h. line_none _ _ _ _ c.loop.invariant c.if-rest-eq0.true (omega arith) l h

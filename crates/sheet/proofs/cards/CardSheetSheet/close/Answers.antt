@@ -9,6 +9,6 @@ returns c =
     let before = c.args.self.now.card.now in
     let p = c.args.place in
     let d = c.args.stroke in
-    let made = c.close-in.ensures in
+    let made = c.close_in.ensures in
     let after = close_step card_laws before _ p d _ (stop_closes before p d) made.answer made.memory in
     record { answer = made.answer; pairs = after.1; memory = (refl, after.0) }

@@ -9,6 +9,6 @@ returns c =
     let before = c.args.self.now.card.now in
     let p = c.args.place in
     let d = c.args.stroke in
-    let made = c.open-in.ensures in
+    let made = c.open_in.ensures in
     let after = open_step card_laws before _ p d _ (λ ok _. letter_opens before p d ok) made.answer made.memory in
     record { answer = made.answer; pairs = after.1; memory = (refl, after.0) }

@@ -6,4 +6,4 @@ pub returns : goal.returns
 returns c =
     let a = c.args.self in
     let b = c.args.other in
-    c.new.ensures ∙ same_capped c.saturating-add-tenths.result (a.tenths + b.tenths) c.max.result (max a.level b.level) (omega arith) (omega arith)
+    c.new.ensures ∙ same_capped c.saturating_add-tenths.result (a.tenths + b.tenths) c.max.result (max a.level b.level) (omega arith) (omega arith)
