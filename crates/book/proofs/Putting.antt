@@ -1,6 +1,6 @@
 -- The lines of a book put on a page one after another; the whole text fits. Assumes nothing.
 use Rattle.std.proofs.Common.{◌≡◌, ℕ, ◌+◌, ◌*◌, ◌<◌, ◌≤◌, true, List, [], ◌∷◌, ◌++◌, length, get_or, take, vec_items, decimal, sym, refl, ap, ◌∙◌, subst, append_assoc, append-nil, arith, length-append}
-use Rattle.std.specs.List.{flat_map, AllByRecursion as All}
+use Rattle.std.specs.List.{flat_map, AllByRecursion}
 use Rattle.std.proofs.lemmas.Bool.Decides.{nat_tests}
 use Rattle.std.proofs.lemmas.List.{length_push, take_more, take_all, flat_map_more}
 use Rattle.std.proofs.ByRecursion.{All-from_get_or}
@@ -41,7 +41,7 @@ rule_spelled k u few h l =
 abbrev pub Fits : ℕ → Rule → Type 0
 Fits k u = InRange k u × Spelled (rule u)
 
-pub all_fit : (k : ℕ) (rules : List Rule) → Lawful k rules → All (Fits k) rules
+pub all_fit : (k : ℕ) (rules : List Rule) → Lawful k rules → AllByRecursion (Fits k) rules
 all_fit k rules h =
     All-from_get_or (Fits k) rules (record { part = 0; side = Cut 65; time = 0; grade = 0 }) (λ i n. (h.ranged i _ n, rule_spelled k _ h.few_parts (h.ranged i _ n) (h.lettered_strokes i _ n)))
 
@@ -50,7 +50,7 @@ side_length : (p : ℕ) (s : RightSide) (t g : ℕ) → Short p → ShortSide s 
 side_length p (Cut s) t g hp h ht hg = omega (arith, fielded_short (decimal p ∷ (s ∷ []) ∷ decimal t ∷ decimal g ∷ []) (decimal_short p hp, (omega arith, (decimal_short t ht, (decimal_short g hg, tt)))))
 side_length p (Pair l r) t g hp h ht hg = omega (arith, fielded_short (decimal p ∷ decimal l ∷ decimal r ∷ decimal t ∷ decimal g ∷ []) (decimal_short p hp, (decimal_short l h.0, (decimal_short r h.1, (decimal_short t ht, (decimal_short g hg, tt))))))
 
-rules_length : (k : ℕ) (rules : List Rule) → All (Fits k) rules → length (flat_map (λ u. ended_line (rule u)) rules) ≤ 37 * length rules
+rules_length : (k : ℕ) (rules : List Rule) → AllByRecursion (Fits k) rules → length (flat_map (λ u. ended_line (rule u)) rules) ≤ 37 * length rules
 rules_length k [] h = omega arith
 rules_length k (u ∷ us) h =
     let s = h.0.1 in

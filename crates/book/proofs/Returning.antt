@@ -1,6 +1,6 @@
 -- What is written reads back the same: the text of a book tells that book. Assumes nothing.
 use Rattle.std.proofs.Common.{◌≡◌, ℕ, List, [], ◌∷◌, ◌++◌, map, drop, Some, Ok, Err, vec_items, decimal, sym, refl, ap, ◌∙◌, subst, inl, inr, append_assoc, arith}
-use Rattle.std.specs.List.{flat_map, AllByRecursion as All}
+use Rattle.std.specs.List.{flat_map, AllByRecursion}
 use Rattle.refusal.specs.declared.Fault.{Fault}
 use Rattle.refusal.specs.declared.Refusal.{Refusal}
 use Rattle.text.specs.Fields.{fielded, Short, Lacks}
@@ -30,7 +30,7 @@ rule_lacks p (Pair l r) t g hp h ht hg = (omega arith, fielded_lacks 10 _ (omega
 starts_line : (line after : List ℕ) → Lacks 10 line → Starts ((line ++ 10 ∷ []) ++ after) line after
 starts_line line after h = record { whole = sym (append_assoc line (10 ∷ []) after); apart = h }
 
-rules_listed : (k : ℕ) (rules : List Rule) → All (Fits k) rules → Listed (map rule rules) (flat_map (λ u. ended_line (rule u)) rules)
+rules_listed : (k : ℕ) (rules : List Rule) → AllByRecursion (Fits k) rules → Listed (map rule rules) (flat_map (λ u. ended_line (rule u)) rules)
 rules_listed k [] h = refl
 rules_listed k (u ∷ us) h =
     let s = h.0.1 in

@@ -1,6 +1,6 @@
 -- What is read is what the text tells: the two ways to say what a book's text means are one. Assumes nothing.
 use Rattle.std.proofs.Common.{◌≡◌, ℕ, ◌+◌, ◌≤◌, List, [], ◌∷◌, ◌++◌, map, length, Some, Ok, Err, vec_items, Result, sym, refl, ap, ◌∙◌, subst, inl, inr, ⊎_elim, append_assoc, append-nil, arith}
-use Rattle.std.specs.List.{AllByRecursion as All}
+use Rattle.std.specs.List.{AllByRecursion}
 use Rattle.std.proofs.lemmas.List.{length_push}
 use Rattle.std.proofs.ByRecursion.{All-from_get_or}
 use Rattle.refusal.specs.declared.Refusal.{Refusal}
@@ -49,7 +49,7 @@ first_parts (parts n ∷ ls) bs k rules h =
 first_parts (rule u ∷ ls) bs k rules h = absurd h.1.passed.0
 
 -- and the other way
-rules_told : (k : ℕ) (ls : List Said) (done todo : List Rule) (bs : List ℕ) → Listed ls bs → without_notes ls ≡ map rule todo → All (InRange k) todo → length done + length todo ≤ 128 → Reads book_form ls (record { parts = Some k; rules = done }) bs (record { parts = Some k; rules = done ++ todo }) []
+rules_told : (k : ℕ) (ls : List Said) (done todo : List Rule) (bs : List ℕ) → Listed ls bs → without_notes ls ≡ map rule todo → AllByRecursion (InRange k) todo → length done + length todo ≤ 128 → Reads book_form ls (record { parts = Some k; rules = done }) bs (record { parts = Some k; rules = done ++ todo }) []
 rules_told k [] done [] bs h e a n = (ap (λ l. record { parts = Some k; rules = l }) (sym (append-nil done)), h)
 rules_told k [] done (v ∷ vs) bs h e a n = let z : ◌≡◌ {A = ℕ} 0 1 = cc in absurd (omega arith)
 rules_told k (note w ∷ ls) done todo bs h e a n = (h.1, record { line = h.0; starts = h.2; stated = h.3; passed = tt }, rules_told k ls done todo h.1 h.4 e a n)

@@ -2,7 +2,7 @@
 use Rattle.std.proofs.Common.{◌≡◌, ℕ, zero, suc, ◌+◌, ◌-◌, ◌*◌, ◌/◌, ◌%◌, ◌^◌, ◌<◌, ◌≤◌, min, false, ◌||◌, eqb, List, [], ◌∷◌, map, length, get_or, take, sym, refl, ap, ◌∙◌, subst, ⊎_elim, mul_assoc, add-mul, add_comm, arith}
 use mathlib.Core.Path.{fun_ext}
 use lib.Bits.{bit_xor, xor_shifted}
-use Rattle.std.specs.List.{AllByRecursion as All}
+use Rattle.std.specs.List.{AllByRecursion}
 use Rattle.std.proofs.lemmas.Nat.{pow-add, pow_below}
 use Rattle.std.proofs.ByRecursion.{All-get_or}
 use Rattle.std.proofs.lemmas.List.{length-map, get_or-map, get_or-take, length-take-le}
@@ -55,7 +55,7 @@ filled_here (n ∷ masks) (m ∷ ms) zero h k = refl
 filled_here (n ∷ masks) (m ∷ ms) (suc i) h k = filled_here masks ms i (omega arith) (omega arith)
 
 -- the sheet of the numbers that the places fill
-pub filled_shown : (places : List (List ℕ)) (ms : List ℕ) (n : ℕ) → All Letters places → length places ≤ 16 → length places ≤ length ms → n ≡ length places → mask_shown (take n (filled (map mask_of places) ms)) ≡ drawn_pairs places
+pub filled_shown : (places : List (List ℕ)) (ms : List ℕ) (n : ℕ) → AllByRecursion Letters places → length places ≤ 16 → length places ≤ length ms → n ≡ length places → mask_shown (take n (filled (map mask_of places) ms)) ≡ drawn_pairs places
 filled_shown places ms n all few fits same = fun_ext (λ p. fun_ext (λ c.
     let after = filled (map mask_of places) ms in
     let size : length (take n after) ≡ n = length-take-le n after (omega (arith, filled_size (map mask_of places) ms)) in

@@ -1,6 +1,6 @@
 -- The numbers of an order's places have 26 bits, and there are at most 16. Assumes nothing.
 use Rattle.std.proofs.Common.{ℕ, ◌^◌, ◌<◌, ◌≤◌, List, [], ◌∷◌, length, subst, arith}
-use Rattle.std.specs.List.{AllByRecursion as All}
+use Rattle.std.specs.List.{AllByRecursion}
 use Rattle.std.proofs.ByRecursion.{All-push}
 use Rattle.std.proofs.lemmas.List.{length_push}
 use Rattle.text.specs.Reading.{Passes, Reads, Accepted}
@@ -9,7 +9,7 @@ use Rattle.order.specs.Statements.{Said, limit, place, States, Stated, stated_af
 use Rattle.order.proofs.Lettering.{mask_small}
 
 abbrev pub Small : List ℕ → Type 0
-Small masks = All (λ mask. mask < 2 ^ 26) masks
+Small masks = AllByRecursion (λ mask. mask < 2 ^ 26) masks
 
 small_after : (sum : Stated) (line : List ℕ) (said : Said) → Small sum.places → States line said → Small (stated_after sum said).places
 small_after sum line (limit l) s t = s

@@ -1,6 +1,6 @@
 -- What is read is what the text tells: the two ways to say what an order's text means are one. Assumes nothing.
 use Rattle.std.proofs.Common.{◌≡◌, ℕ, ◌+◌, ◌<◌, ◌≤◌, List, [], ◌∷◌, ◌++◌, map, length, take, Some, Ok, Err, Result, sym, refl, ap, ◌∙◌, subst, ⊎_elim, append_assoc, append-nil, arith}
-use Rattle.std.specs.List.{AllByRecursion as All}
+use Rattle.std.specs.List.{AllByRecursion}
 use Rattle.std.proofs.lemmas.List.{length_push, length-map}
 use Rattle.refusal.specs.declared.Refusal.{Refusal}
 use Rattle.refusal.specs.declared.Fault.{Fault}
@@ -83,7 +83,7 @@ tells_accepted text l places t =
     }
 
 -- the places that are told have letters
-listed_letters : (places : List (List ℕ)) (bs : List ℕ) → Listed order_form (map place places) bs → All Letters places
+listed_letters : (places : List (List ℕ)) (bs : List ℕ) → Listed order_form (map place places) bs → AllByRecursion Letters places
 listed_letters [] bs h = tt
 listed_letters (letters ∷ places) bs h = (h.3.spelled, listed_letters places h.1 h.4)
 

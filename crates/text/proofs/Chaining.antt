@@ -1,6 +1,6 @@
 -- Fields one after another: a text is fields in one way only. Assumes nothing.
 use Rattle.std.proofs.Common.{◌≡◌, ℕ, ◌+◌, ◌*◌, ◌<◌, ◌≤◌, List, [], ◌∷◌, ◌++◌, map, length, get_or, take, drop, set, decimal, sym, refl, ap, ◌∙◌, subst, append_assoc, append-nil, arith, length-append, length-take}
-use Rattle.std.specs.List.{AllByRecursion as All}
+use Rattle.std.specs.List.{AllByRecursion}
 use Rattle.std.proofs.ByRecursion.{All-append, All-push, All-get_or}
 use Rattle.std.proofs.lemmas.List.{nil_from_length, take_all, take_more_set, at_drop_more, at_drop_all}
 use Rattle.std.proofs.lemmas.Fmt.{length-decimal-le, decimal_injective}
@@ -13,7 +13,7 @@ fielded_ended [] = tt
 fielded_ended (f ∷ fs) = refl
 
 -- fields without spaces are the same where their texts are
-pub fielded_unique : (fs gs : List (List ℕ)) → All (Lacks 32) fs → All (Lacks 32) gs → fielded fs ≡ fielded gs → fs ≡ gs
+pub fielded_unique : (fs gs : List (List ℕ)) → AllByRecursion (Lacks 32) fs → AllByRecursion (Lacks 32) gs → fielded fs ≡ fielded gs → fs ≡ gs
 unfolding fielded
 fielded_unique [] [] a b e = refl
 fielded_unique [] (g ∷ gs) a b e = let n : ◌≡◌ {A = ℕ} 0 1 = cc in absurd (omega arith)
@@ -25,13 +25,13 @@ fielded_unique (f ∷ fs) (g ∷ gs) a b e =
     λ i. h.0 i ∷ more i
 
 -- a text lacks a byte that its fields lack
-pub fielded_lacks : (m : ℕ) (fs : List (List ℕ)) → (32 ≡ m → ⊥) → All (Lacks m) fs → Lacks m (fielded fs)
+pub fielded_lacks : (m : ℕ) (fs : List (List ℕ)) → (32 ≡ m → ⊥) → AllByRecursion (Lacks m) fs → Lacks m (fielded fs)
 unfolding fielded
 fielded_lacks m [] n h = tt
 fielded_lacks m (f ∷ fs) n h = (n, All-append _ f (fielded fs) h.0 (fielded_lacks m fs n h.1))
 
 -- short fields make a short text
-pub fielded_short : (fs : List (List ℕ)) → All (λ f. length f ≤ 6) fs → length (fielded fs) ≤ 7 * length fs
+pub fielded_short : (fs : List (List ℕ)) → AllByRecursion (λ f. length f ≤ 6) fs → length (fielded fs) ≤ 7 * length fs
 unfolding fielded
 fielded_short [] h = omega arith
 fielded_short (f ∷ fs) h = omega (arith, length-append f (fielded fs), h.0, fielded_short fs h.1)
@@ -82,7 +82,7 @@ unfolding fielded
 front_stroke {s = s} fs t e = ap (λ l. 32 ∷ s ∷ l) e ∙ t.whole
 
 -- numbers that stand in front of a text of numbers
-pub numbers_left : (xs ns : List ℕ) {rest : List ℕ} → All Short xs → All Short ns → (0 < length xs → Ended 32 rest) → length xs ≤ length ns → numbered xs ++ rest ≡ numbered ns → numbered (drop (length xs) ns) ≡ rest
+pub numbers_left : (xs ns : List ℕ) {rest : List ℕ} → AllByRecursion Short xs → AllByRecursion Short ns → (0 < length xs → Ended 32 rest) → length xs ≤ length ns → numbered xs ++ rest ≡ numbered ns → numbered (drop (length xs) ns) ≡ rest
 unfolding fielded
 numbers_left [] ns a b n h e = sym e
 numbers_left (x ∷ xs) [] a b n h e = absurd (omega arith)
@@ -104,7 +104,7 @@ numbered_push (x ∷ xs) y more =
 -- the first i numbers of found are the first fields of whole, and rest is left
 pub record Found (whole found : List ℕ) (i : ℕ) (rest : List ℕ) : Type 0 where
   pub front : numbered (take i found) ++ rest ≡ whole
-  pub short : All Short (take i found)
+  pub short : AllByRecursion Short (take i found)
   pub ended : 0 < i → Ended 32 rest
 
 pub found_none : (whole found : List ℕ) → Found whole found 0 whole
@@ -116,7 +116,7 @@ found_more {whole} {found} {i} {rest} {n} {more} f h t =
     let e : take (i + 1) (set found i n) ≡ take i found ++ n ∷ [] = take_more_set found i n h in
     record {
       front = ap (λ l. numbered l ++ more) e ∙ numbered_push (take i found) n more ∙ ap (λ l. numbered (take i found) ++ l) t.whole ∙ f.front;
-      short = subst (All Short) (sym e) (All-push Short (take i found) n f.short t.short);
+      short = subst (AllByRecursion Short) (sym e) (All-push Short (take i found) n f.short t.short);
       ended = λ _. t.ended;
     }
 
@@ -144,5 +144,5 @@ found_all {whole} {found} {i} {rest} f k h e =
     record {
       count = k;
       whole = sym (append-nil (numbered found)) ∙ ap (λ l. numbered found ++ l) (sym (nil_from_length rest e)) ∙ ap (λ l. numbered l ++ rest) (sym all) ∙ f.front;
-      short = subst (All Short) all f.short;
+      short = subst (AllByRecursion Short) all f.short;
     }

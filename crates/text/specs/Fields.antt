@@ -1,6 +1,6 @@
 -- The fields of a line: each after one space, a number in one way only, a stroke as one letter. Assumes nothing.
 use Rattle.std.specs.Prelude.{◌≡◌, ℕ, ◌<◌, ◌≤◌, List, [], ◌∷◌, ◌++◌, map, length, decimal, ◌≢◌}
-use Rattle.std.specs.List.{flat_map, AllByRecursion as All}
+use Rattle.std.specs.List.{flat_map, AllByRecursion}
 
 -- a stroke is a capital letter, A to Z
 abbrev pub Stroke : ℕ → Type 0
@@ -16,7 +16,7 @@ Writes ds n = (decimal n ≡ ds) × Short n
 
 -- no byte of bs is m
 abbrev pub Lacks : ℕ → List ℕ → Type 0
-Lacks m bs = All (λ b. b ≢ m) bs
+Lacks m bs = AllByRecursion (λ b. b ≢ m) bs
 
 -- nothing, or m first
 abbrev pub Ended : ℕ → List ℕ → Type 0
@@ -53,4 +53,4 @@ pub record StrokeField (rest : List ℕ) (s : ℕ) (more : List ℕ) : Type 0 wh
 pub record Numbered (n : ℕ) (rest : List ℕ) (ns : List ℕ) : Type 0 where
   pub count : length ns ≡ n
   pub whole : numbered ns ≡ rest
-  pub short : All Short ns
+  pub short : AllByRecursion Short ns
