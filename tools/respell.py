@@ -6,8 +6,9 @@ usage: python3 tools/respell.py        at the top of the repository, once, after
 NAMES are the names that specs/ and proofs/ declare with dashes; each dash becomes an underscore, in every .antt and .rt
 file and, between backquotes, in README.md and docs/. Names that Rattle makes (of goals and of steps) and names of its
 library are not in the list. Functions of src/, strings, inputs and outputs have no dash and stay. No two names fall
-together: where a definition now has the name of a function (`in_book`, `in_order`, `in_range`, `mask_of`,
-`order_summary`, `only_masks`, `only_card`, `place_line`), clauses mean the definition and code means the function.
+together: where a definition or lemma now has the name of a function (`in_book`, `in_order`, `in_range`, `mask_of`,
+`order_summary`, `only_masks`, `only_card`, `place_line`, `number_field`, `stroke_field`, `too_short`), clauses and proofs
+mean the definition or lemma and code means the function.
 """
 import os
 import re
