@@ -4,8 +4,10 @@
 ghost use Rattle.std.specs.Prelude.{◌≡◌, Some};
 ghost use Rattle.refusal.specs.Numbers.{number_of};
 ghost use Rattle.refusal.specs.Layers.{layer_of, layer_name, source_layer};
-ghost use Rattle.refusal.specs.Faults.{on_sheet, fault_line};
+ghost use Rattle.refusal.specs.Faults.{on_sheet, in_text, fault_line};
+ghost use Rattle.refusal.specs.declared.Refusal.TheVariants.{OutOfMemory};
 
+use std::alloc::{AllocError, AllocFailed};
 use std::fmt;
 
 // One case for each reason to refuse. The numbers 1 to 19 are the workshop's; 31 is want of memory.
@@ -123,11 +125,43 @@ impl Refusal {
     pub fn layer(self, source: Source) -> Layer
         ensures { result ≡ layer_of self source }
     {
-        match self.number() {
-            1..=10 | 31 => Layer::Sheet,
-            11..=13 => Layer::Reader,
-            _ => source.layer(),
+        match self {
+            Refusal::NoSuchPlace
+            | Refusal::NotAStroke
+            | Refusal::NotOpen
+            | Refusal::MarksFull
+            | Refusal::WrongSlip
+            | Refusal::BadLength
+            | Refusal::LimitBarred
+            | Refusal::BoardTooShort
+            | Refusal::LentTooShort
+            | Refusal::NoRun
+            | Refusal::OutOfMemory => Layer::Sheet,
+            Refusal::TextTooLong | Refusal::UnknownLine | Refusal::MalformedField => Layer::Reader,
+            Refusal::PartsMisplaced
+            | Refusal::OutOfRange
+            | Refusal::TooManyRules
+            | Refusal::NoRule
+            | Refusal::LimitMisplaced
+            | Refusal::TooManyPlaces => source.layer(),
         }
+    }
+}
+
+// Where the allocator gives no memory, `?` answers that refusal.
+impl From<AllocError> for Refusal {
+    ghost from_gives = { λ _ r. r ≡ OutOfMemory };
+
+    fn from(_error: AllocError) -> Refusal {
+        Refusal::OutOfMemory
+    }
+}
+
+impl<T: Drop> From<AllocFailed<T>> for Refusal {
+    ghost from_gives = { λ _ r. r ≡ OutOfMemory };
+
+    fn from(_error: AllocFailed<T>) -> Refusal {
+        Refusal::OutOfMemory
     }
 }
 
@@ -140,6 +174,17 @@ impl Fault {
             refusal,
             source: Source::Sheet,
             line: 0,
+        }
+    }
+
+    // A refusal of a text at a line.
+    pub fn in_text(source: Source, refusal: Refusal, line: usize) -> Fault
+        ensures { result ≡ in_text source refusal line }
+    {
+        Fault {
+            refusal,
+            source,
+            line,
         }
     }
 
