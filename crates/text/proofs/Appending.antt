@@ -1,7 +1,6 @@
 -- One text put after another, as far as there is room. Assumes nothing.
-use Rattle.std.proofs.Common.{◌≡◌, ℕ, zero, suc, ◌+◌, ◌/◌, ◌%◌, ◌^◌, ◌<◌, ◌≤◌, List, [], ◌∷◌, ◌++◌, length, take, set, decimal, sym, refl, ap, ◌∙◌, subst, append_assoc, append-nil, arith, length-append, length-take}
-use Rattle.std.proofs.lemmas.List.{take_all, take_more_set, take-append-le}
-use Rattle.std.proofs.lemmas.Fmt.{decimal_step, decimal_digit}
+use Rattle.std.proofs.Common.{◌≡◌, ℕ, zero, suc, ◌+◌, ◌/◌, ◌%◌, ◌^◌, ◌<◌, ◌≤◌, List, [], ◌∷◌, ◌++◌, length, get_or, take, decimal, sym, refl, ap, ◌∙◌, subst, append_assoc, append-nil, arith, length-append, length-take}
+use Rattle.std.proofs.lemmas.List.{take_all, take_more, take-append-le}
 use Rattle.text.specs.declared.pages.Page.{Page}
 use Rattle.text.specs.Pages.{page_text, Appended}
 
@@ -22,28 +21,17 @@ appended_same {p} {q} e f = subst (λ l. Appended p l q) e f
 pub appended_from : {p o q : Page} {bs : List ℕ} → p ≡ o → Appended p bs q → Appended o bs q
 appended_from {q = q} {bs = bs} e f = subst (λ o. Appended o bs q) e f
 
--- what a page holds fits
-text_size : (n : ℕ) (bs : List ℕ) → n ≤ length bs → length (take n bs) ≡ n
-text_size n bs h = length-take n bs ∙ omega arith
-
 -- nothing more
 pub appended_none : (p : Page) → Appended p [] p
-appended_none p = record { grown = sym (ap (take 8192) (append-nil (page_text p)) ∙ take_all 8192 (page_text p) (omega (arith, p.within, length-take p.len p.bytes))) }
+appended_none p = record { grown = sym (ap (take 8192) (append-nil (page_text p)) ∙ take_all 8192 (page_text p) p.within) }
 
 -- one byte where there is room, and where there is none
-pub byte_put : (bytes : List ℕ) (n b : ℕ) → n < 8192 → 8192 ≤ length bytes → take (n + 1) (set bytes n b) ≡ take 8192 (take n bytes ++ b ∷ [])
-byte_put bytes n b h size =
-    take_more_set bytes n b (omega arith)
-    ∙ sym (take_all 8192 _ (omega (arith, length-append (take n bytes) (b ∷ []), text_size n bytes (omega arith))))
+pub byte_put : (xs : List ℕ) (b : ℕ) → length xs < 8192 → xs ++ b ∷ [] ≡ take 8192 (xs ++ b ∷ [])
+byte_put xs b h = sym (take_all 8192 _ (omega (arith, length-append xs (b ∷ []))))
 
-pub byte_lost : (bytes : List ℕ) (n b : ℕ) → 8192 ≡ n → n ≤ length bytes → take n bytes ≡ take 8192 (take n bytes ++ b ∷ [])
-byte_lost bytes n b h size =
-    let s = text_size n bytes size in
-    sym (take-append-le 8192 (take n bytes) (b ∷ []) (omega arith) ∙ take_all 8192 (take n bytes) (omega arith))
+pub byte_lost : (xs : List ℕ) (b : ℕ) → length xs ≡ 8192 → xs ≡ take 8192 (xs ++ b ∷ [])
+byte_lost xs b h = sym (take-append-le 8192 xs (b ∷ []) (omega arith) ∙ take_all 8192 xs (omega arith))
 
--- the last digit, and the others
-pub last_digit : (n : ℕ) → 10 ≤ n → n < 2 ^ 32 → decimal (n / 10) ++ (48 + n % 10) ∷ [] ≡ decimal n
-last_digit n h f = sym (decimal_step n h (omega arith))
-
-pub only_digit : (n : ℕ) → n < 10 → (48 + n % 10) ∷ [] ≡ decimal n
-only_digit n h = ap (λ d. (48 + d) ∷ []) (omega arith) ∙ sym (decimal_digit n h)
+-- the first bytes of a text, and one more
+pub front_put : {p q r : Page} (bs : List ℕ) (i : ℕ) → i < length bs → Appended p (take i bs) q → Appended q (get_or bs i 0 ∷ []) r → Appended p (take (i + 1) bs) r
+front_put bs i h f g = appended_same (sym (take_more bs i 0 h)) (appended_then f g)

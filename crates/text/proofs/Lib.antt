@@ -6,3 +6,4 @@ pub mod Appending
 pub mod Endings
 pub mod Letters
 pub mod Standing
+pub mod Answering

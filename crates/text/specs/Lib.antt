@@ -4,3 +4,4 @@ pub mod Places
 pub mod Lines
 pub mod Pages
 pub mod Reading
+pub mod Readings

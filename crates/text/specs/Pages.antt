@@ -4,7 +4,7 @@ use Rattle.text.specs.declared.pages.Page.{Page}
 
 -- the bytes that the page holds
 abbrev pub page_text : Page → List ℕ
-page_text p = take p.len p.bytes
+page_text p = p.bytes.items
 
 -- the page q holds what p holds and then bs, as far as there is room
 pub record Appended (p : Page) (bs : List ℕ) (q : Page) : Type 0 where

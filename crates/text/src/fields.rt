@@ -31,13 +31,7 @@ pub fn number(field: &[u8]) -> Option<u32>
 pub fn field(rest: &[u8]) -> Option<(&[u8], &[u8])>
     ensures { MatchOption result ((x : List ℕ) → 32 ∷ x ≢ rest.now) (λ x. Field rest.now x.0.now x.1.now) }
 {
-    if rest.len() == 0 {
-        return None;
-    }
-    if rest[0] != b' ' {
-        return None;
-    }
-    let tail = &rest[1..];
+    let tail = rest.strip_prefix(b" ")?;
     Some(tail.split_at(place(tail, b' ')))
 }
 
@@ -55,14 +49,14 @@ pub fn stroke_field(rest: &[u8]) -> Option<(u8, &[u8])>
     ensures { MatchOption result ((s : ℕ) (more : List ℕ) → StrokeField rest.now s more → ⊥) (λ x. StrokeField rest.now x.0 x.1.now) }
 {
     let (word, more) = field(rest)?;
-    if word.len() != 1 {
+    let (s, others) = word.split_first()?;
+    if !others.is_empty() {
         return None;
     }
-    let s = word[0];
-    if s < b'A' || s > b'Z' {
+    if !s.is_ascii_uppercase() {
         return None;
     }
-    Some((s, more))
+    Some((*s, more))
 }
 
 // The numbers that `rest` is made of, if it has just that many fields and each writes a number.

@@ -36,9 +36,7 @@ pub fn kind_of(letter: char) -> Option<Kind>
 pub fn line_kind(line: &[u8]) -> Option<(Kind, &[u8])>
     ensures { MatchOption result ((k : Kind) (rest : List ℕ) → letter_of k ∷ rest ≢ line.now) (λ x. letter_of x.0 ∷ x.1.now ≡ line.now) }
 {
-    if line.len() == 0 {
-        return None;
-    }
-    let kind = kind_of(line[0] as char)?;
-    Some((kind, &line[1..]))
+    let (letter, rest) = line.split_first()?;
+    let kind = kind_of(*letter as char)?;
+    Some((kind, rest))
 }

@@ -10,12 +10,7 @@ use refusal::{Fault, Source};
 pub(crate) fn place(text: &[u8], mark: u8) -> usize
     ensures { FirstAt mark text.now result }
 {
-    for (i, b) in text.iter().enumerate() {
-        if *b == mark {
-            return i;
-        }
-    }
-    text.len()
+    text.iter().position(|b| *b == mark).unwrap_or(text.len())
 }
 
 // The first line of a text, without its byte 10, and what follows it; none where no byte 10 ends it.

@@ -1,12 +1,59 @@
 // A text under construction, in memory of its own.
-ghost use Rattle.std.specs.Prelude.{◌≤◌};
+ghost use Rattle.std.specs.Prelude.{◌≤◌, length};
 
-mod writing;
+use arrayvec::ArrayVec;
+use itoa::Buffer;
 
 // A text of at most 8,192 bytes, the longest that is ever read. What is put at its end beyond that is lost.
 #[derive(Drop)]
 pub struct Page {
-    bytes: [u8; 8192],
-    len: usize,
-    ghost within: { len ≤ 8192 },
+    bytes: ArrayVec<u8, 8192>,
+    ghost within: { length bytes.items ≤ 8192 },
+}
+
+impl Page {
+    ghost use Rattle.std.specs.Prelude.{◌≡◌, [], ◌∷◌, decimal};
+    ghost use Rattle.text.specs.Pages.{page_text, Appended};
+
+    // A page with nothing on it.
+    pub fn new() -> Page
+        ensures { page_text result ≡ [] }
+    {
+        Page {
+            bytes: ArrayVec::new(),
+        }
+    }
+
+    // The text so far.
+    pub fn text(&self) -> &[u8]
+        ensures { result.now ≡ page_text self.now }
+    {
+        self.bytes.as_slice()
+    }
+
+    // One byte more.
+    pub fn push(&mut self, b: u8)
+        ensures { Appended self.old (b ∷ []) self.new }
+    {
+        if !self.bytes.is_full() {
+            self.bytes.push(b);
+        }
+    }
+
+    // A number in base ten.
+    pub fn number(&mut self, n: u32)
+        ensures { Appended self.old (decimal n) self.new }
+    {
+        for digit in Buffer::new().format(n).as_bytes() {
+            self.push(*digit);
+        }
+    }
+
+    // A number as a field: a space before it.
+    pub fn field(&mut self, n: u32)
+        ensures { Appended self.old (32 ∷ decimal n) self.new }
+    {
+        self.push(b' ');
+        self.number(n);
+    }
 }

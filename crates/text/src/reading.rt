@@ -1,0 +1,86 @@
+// A text read line by line, for any form of lines.
+ghost use Rattle.std.specs.Prelude.{MatchResult};
+ghost use Rattle.std.specs.Prelude.{◌≡◌, ◌<◌, length};
+ghost use Rattle.text.specs.Reading.{Form, Plain, Leads, Ending, Ends};
+ghost use Rattle.text.specs.Readings.{fault_at, Takes, Refuses, RestRefuses, Finishes, ReadAs, Agrees};
+
+use crate::lines::first_line;
+use refusal::{Fault, Refusal, Source};
+
+// What the lines so far of a text state together, while the text is read.
+pub trait Draft: Drop {
+    // what a whole text states, as a value
+    type Whole;
+
+    // what a line can state, what lines state together, and the form of the texts
+    ghost Said: { Type 0 };
+
+    ghost Sum: { Type 0 };
+
+    ghost form: { Form Said Sum };
+
+    // what the lines so far state
+    ghost stated: { Self → Sum };
+
+    // what the whole text states
+    ghost whole: { Self.Whole → Sum };
+
+    // for which statements there may be no memory
+    ghost wants_memory: { Said → Type 0 };
+
+    // Takes what one more line states, or refuses the line.
+    fn take(&mut self, line: &[u8]) -> Result<(), Refusal>
+        ensures { MatchResult result (λ _. Takes form (stated self.old) line.now (stated self.new)) (Refuses form wants_memory (stated self.old) line.now) };
+
+    // What the text states that ends here, or why it is refused.
+    fn finish(self) -> Result<Self::Whole, Refusal>
+        ensures { Finishes form whole (stated self) result };
+
+    // a line states one thing at the most
+    ghost plain: { Plain form };
+}
+
+// The fault of a text that is refused at a line; for want of memory no line is at fault.
+fn fault_at(source: Source, refusal: Refusal, line: usize) -> Fault
+    ensures { result ≡ fault_at source refusal line }
+{
+    match refusal {
+        Refusal::OutOfMemory => Fault::of_sheet(refusal),
+        _ => Fault::in_text(source, refusal, line),
+    }
+}
+
+// Takes the first line of `rest`, and gives what follows it.
+fn take_line<'a, D: Draft>(draft: &mut D, rest: &'a [u8]) -> Result<&'a [u8], Refusal>
+    requires { 0 < length rest.now }
+    ensures { MatchResult result (λ after. (said : D.Said) × Leads D.form (D.stated draft.old) rest.now said after.now × (D.stated draft.new ≡ D.form.adds (D.stated draft.old) said)) (RestRefuses D.form D.wants_memory (D.stated draft.old) rest.now) }
+{
+    let (line, after) = first_line(rest).ok_or(Refusal::UnknownLine)?;
+    draft.take(line)?;
+    Ok(after)
+}
+
+// What the text states, by a draft that begins with no line; or the first refusal in the order of the tests, with its line.
+pub fn read<D: Draft>(draft: D, source: Source, text: &[u8]) -> Result<D::Whole, Fault>
+    ensures outcome { D.stated draft ≡ D.form.blank → ReadAs D.form D.whole D.wants_memory source text.now result }
+    ensures only { D.stated draft ≡ D.form.blank → (e : Ending D.Sum) → Ends D.form text.now e → Agrees D.form D.whole D.wants_memory source text.now e result }
+{
+    if text.len() > 8192 {
+        return Err(Fault::in_text(source, Refusal::TextTooLong, 0));
+    }
+    let mut draft = draft;
+    let mut rest = text;
+    // The number of the line past the last is wanted after the loop too, where `enumerate` would have let its count go.
+    let mut number: usize = 1;
+    while !rest.is_empty() {
+        match take_line(&mut draft, rest) {
+            Ok(after) => rest = after,
+            Err(refusal) => return Err(fault_at(source, refusal, number)),
+        }
+        number += 1;
+    }
+    match draft.finish() {
+        Ok(whole) => Ok(whole),
+        Err(refusal) => Err(fault_at(source, refusal, number)),
+    }
+}
