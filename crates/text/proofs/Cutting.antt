@@ -1,13 +1,9 @@
 -- Where a text is cut: before the first byte of a kind, and so in one way only. Assumes nothing.
-use Rattle.std.proofs.Common.{◌≡◌, ℕ, ◌+◌, ◌-◌, ◌<◌, ◌≤◌, List, [], ◌∷◌, ◌++◌, length, get_or, take, drop, decimal, sym, refl, ap, ◌∙◌, subst, ⊎_elim, arith, length-append}
-use native.Mathlib.Nat.{sub-zero}
+use Rattle.std.proofs.Common.{◌≡◌, ℕ, ◌<◌, List, [], ◌∷◌, ◌++◌, length, decimal, sym, refl, ap, ◌∙◌, subst, arith, length-append}
 use Rattle.std.proofs.ByRecursion.{All-from_get_or}
-use Rattle.std.proofs.lemmas.List.{take-append-drop, drop_more, drop_all, take_rest, take_all}
-use Rattle.std.proofs.lemmas.Bool.{cases_lt}
 use Rattle.std.proofs.lemmas.Fmt.{decimal_injective}
 use Rattle.text.specs.Fields.{Lacks, Field, Ended, NumberField, StrokeField, Stroke, Writes}
 use Rattle.text.specs.Lines.{Starts}
-use Rattle.text.specs.Places.{FirstAt}
 use Rattle.text.proofs.Numerals.{writes_digit}
 
 -- a text that lacks m, and what follows it
@@ -22,34 +18,6 @@ span_unique m (a ∷ rs) z (b ∷ bs) y la lb ez ey e =
     let h = span_unique m rs z bs y la.1 lb.1 ez ey rest in
     let first : a ≡ b = cc in
     ((λ i. first i ∷ h.0 i), h.1)
-
-pub first_ended : (m : ℕ) (bs : List ℕ) (i : ℕ) → FirstAt m bs i → Ended m (drop i bs)
-first_ended m bs i p =
-    ⊎_elim
-    (λ (h : i < length bs). subst (Ended m) (sym (drop_more bs i 0 h)) (p.here h))
-    (λ (h : length bs ≤ i). subst (Ended m) (sym (drop_all i bs h)) tt)
-    (cases_lt i (length bs))
-
-pub first_none : (m : ℕ) (bs : List ℕ) (i : ℕ) → length bs ≤ i → Lacks m (take i bs) → FirstAt m bs (length bs)
-first_none m bs i h l = record {
-  within = omega arith;
-  before = subst (Lacks m) (take_all i bs h ∙ sym (take_all (length bs) bs (omega arith))) l;
-  here = λ k. absurd (omega arith);
-}
-
--- a field ends where its first space stands
-pub field_at : (rest : List ℕ) (i : ℕ) (word more : List ℕ) → 0 < length rest → get_or rest 0 0 ≡ 32 → FirstAt 32 (take (length rest - 1) (drop 1 rest)) i → word ≡ take i (take (length rest - 1) (drop 1 rest)) → more ≡ drop i (take (length rest - 1) (drop 1 rest)) → Field rest word more
-field_at [] i word more some e p w m = absurd (omega arith)
-field_at (b ∷ bs) i word more some e p w m =
-    let all = take_rest (b ∷ bs) 1 in
-    let q : FirstAt 32 bs i = subst (λ l. FirstAt 32 l i) all p in
-    let w' : word ≡ take i bs = w ∙ ap (take i) all in
-    let m' : more ≡ drop i bs = m ∙ ap (drop i) all in
-    record {
-      whole = (λ j. sym e j ∷ (w' j ++ m' j)) ∙ ap (λ l. b ∷ l) (take-append-drop i bs);
-      apart = subst (Lacks 32) (sym w') q.before;
-      ended = subst (Ended 32) (sym m') (first_ended 32 bs i q);
-    }
 
 pub field_unique : {rest a z b y : List ℕ} → Field rest a z → Field rest b y → (a ≡ b) × (z ≡ y)
 field_unique {rest} {a} {z} {b} {y} f g =
@@ -85,24 +53,6 @@ no_number f none n others t = none n ((field_unique (number_field t) f).0, t.sho
 
 pub no_stroke : {rest word more : List ℕ} → Field rest word more → ((s : ℕ) → s ∷ [] ≡ word → Stroke s → ⊥) → (s : ℕ) (others : List ℕ) → StrokeField rest s others → ⊥
 no_stroke f none s others t = none s (field_unique (stroke_field t) f).0 t.stroke
-
-one_letter : (word : List ℕ) → length word ≡ 1 → word ≡ get_or word 0 0 ∷ []
-one_letter [] e = absurd (omega arith)
-one_letter (s ∷ []) e = refl
-one_letter (s ∷ r ∷ word) e = absurd (omega arith)
-
-pub stroke_here : {rest word more : List ℕ} → Field rest word more → length word ≡ 1 → Stroke (get_or word 0 0) → StrokeField rest (get_or word 0 0) more
-stroke_here {rest} {word} {more} f one s = record { whole = ap (λ l. 32 ∷ (l ++ more)) (sym (one_letter word one)) ∙ f.whole; stroke = s; ended = f.ended }
-
--- as the checker reads `&bs[0..i]` and `&bs[i + 1..]`
-pub starts_here : (bs : List ℕ) (i : ℕ) → FirstAt 10 bs i → i < length bs → Starts bs (take (i - 0) bs) (take (length bs - (i + 1)) (drop (i + 1) bs))
-starts_here bs i p h = rw (sub-zero, take_rest) (record {
-  whole = ap (λ x. take i bs ++ x ∷ drop (i + 1) bs) (sym (p.here h)) ∙ ap (λ l. take i bs ++ l) (sym (drop_more bs i 0 h)) ∙ take-append-drop i bs;
-  apart = p.before;
-})
-
-pub unended : (bs : List ℕ) (i : ℕ) → FirstAt 10 bs i → length bs ≤ i → Lacks 10 bs
-unended bs i p h = subst (Lacks 10) (take_all i bs h) p.before
 
 pub starts_shorter : {bs line after : List ℕ} → Starts bs line after → length after < length bs
 starts_shorter {bs} {line} {after} s = omega (arith, simp length-append at (ap length s.whole))

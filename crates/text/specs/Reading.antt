@@ -1,6 +1,6 @@
 -- How a text is read, line by line, for any form of lines: what it states, or the first line that is refused and
 -- for what. Assumes nothing.
-use Rattle.std.specs.Prelude.{◌≡◌, ℕ, ◌+◌, ◌<◌, ◌≤◌, ◌⊎◌, List, [], ◌∷◌, length, Ok, Err, Result}
+use Rattle.std.specs.Prelude.{◌≡◌, ℕ, ◌+◌, ◌<◌, ◌≤◌, ◌⊎◌, List, [], ◌∷◌, length, Ok, Err, Option, Result, MatchOption}
 use Rattle.refusal.specs.declared.Refusal.{Refusal}
 use Rattle.refusal.specs.declared.Refusal.TheVariants.{TextTooLong, UnknownLine, MalformedField}
 use Rattle.text.specs.Fields.{Lacks}
@@ -66,6 +66,10 @@ module _ {Said Sum : Type 0} (form : Form Said Sum) where
   abbrev pub Listed : List Said → List ℕ → Type 0
   Listed [] text = text ≡ []
   Listed (said ∷ more) text = (line : List ℕ) × (after : List ℕ) × Starts text line after × form.states line said × Listed more after
+
+  -- how the rest of a line is read after its first letter: as something that says what the line states, or it states nothing
+  abbrev pub RestRead : {Line : Type 0} → (Line → Said) → ℕ → List ℕ → Option Line → Type 0
+  RestRead said_by letter rest o = MatchOption o ((said : Said) → form.states (letter ∷ rest) said → ⊥) (λ l. form.states (letter ∷ rest) (said_by l))
 
   -- how a line is read: as something that says what it states; or it is of no known kind, or of a known kind and states nothing
   abbrev pub LineRead : {Line : Type 0} → (Line → Said) → List ℕ → Result Line Refusal → Type 0

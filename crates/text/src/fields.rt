@@ -1,30 +1,42 @@
 // The fields of a line, taken from its front one by one.
 ghost use Rattle.std.specs.Prelude.{◌≡◌, ℕ, List, ◌∷◌, MatchOption, ◌≢◌};
+ghost use Rattle.std.specs.Prelude.{MatchResult, ◌≤◌, ◌<◌};
+ghost use Rattle.refusal.specs.declared.Refusal.TheVariants.{OutOfRange};
 ghost use Rattle.text.specs.Fields.{Writes, Field, NumberField, StrokeField, Numbered};
 
 use crate::lines::place;
+use refusal::Refusal;
+use std::str::from_utf8;
 
 // The number that a field writes, if it writes one.
 pub fn number(field: &[u8]) -> Option<u32>
     ensures { MatchOption result ((n : ℕ) → Writes field.now n → ⊥) (λ n. Writes field.now n) }
 {
-    if field.len() == 0 {
-        return None;
-    }
+    let (first, others) = field.split_first()?;
     if field.len() > 6 {
         return None;
     }
-    if field[0] == b'0' && field.len() > 1 {
+    if *first == b'+' {
         return None;
     }
-    let mut n: u32 = 0;
-    for b in field {
-        if *b < b'0' || *b > b'9' {
-            return None;
-        }
-        n = n * 10 + (*b - b'0') as u32;
+    if *first == b'0' && !others.is_empty() {
+        return None;
     }
-    Some(n)
+    let Ok(digits) = from_utf8(field) else {
+        return None;
+    };
+    digits.parse().ok()
+}
+
+// The blade grade that a number of a text says, which is at most 254.
+pub fn grade(number: u32) -> Result<u8, Refusal>
+    ensures { MatchResult result (λ grade. (grade ≡ number) × (number ≤ 254)) (λ r. (OutOfRange ≡ r) × (254 < number)) }
+{
+    let grade = u8::try_from(number).map_err(|_| Refusal::OutOfRange)?;
+    if grade == u8::MAX {
+        return Err(Refusal::OutOfRange);
+    }
+    Ok(grade)
 }
 
 // The field in front of `rest`, after its space, and what follows it.

@@ -8,7 +8,7 @@ mod lines;
 mod pages;
 mod reading;
 
-pub use fields::{field, number, number_field, numbers, stroke_field};
+pub use fields::{field, grade, number, number_field, numbers, stroke_field};
 pub use kinds::{Kind, kind_of, line_kind};
 pub use lines::{faulty_line, first_line, line};
 pub use pages::Page;

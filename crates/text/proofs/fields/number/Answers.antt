@@ -1,27 +1,28 @@
-use Rattle.std.proofs.Common.{⊎_elim, arith}
-use Rattle.text.proofs.Numerals.{writes_some, writes_short, writes_first, writes_digit, digits_turn, digits_small, digits_end}
+use Rattle.std.proofs.Common.{rules, subst, arith}
+use Rattle.std.specs.Str.{IsUtf8}
+use Rattle.std.proofs.lemmas.Bool.Decides.{nat_tests}
+use Rattle.std.proofs.lemmas.Str.{IsUtf8-from_ascii}
+use Rattle.std.proofs.lemmas.Fmt.{IsAscii-decimal}
+use Rattle.text.proofs.Numerals.{writes_some, writes_short, writes_first, writes_digit, parsed}
 use Rattle.text.proofs.fields.number.Goals as goal
 
-pub returns-then-field-eq0 : goal.returns-then-field-eq0
-returns-then-field-eq0 c = λ n w. omega (arith, writes_some _ n w)
+pub returns-in_err-first : goal.returns-in_err-first
+returns-in_err-first c = rw c.from_residual.ensures (λ n w. omega (arith, writes_some _ n w, c.in_err-first.ensures.cases))
 
 pub returns-then-field-gt6 : goal.returns-then-field-gt6
 returns-then-field-gt6 c = λ n w. omega (arith, writes_short _ n w)
 
-pub returns-then-field-gt1 : goal.returns-then-field-gt1
-returns-then-field-gt1 c = λ n w. omega (arith, writes_first _ n w c.if-field-eq48.true)
+pub returns-then-first-eq43 : goal.returns-then-first-eq43
+returns-then-first-eq43 c = λ n w. let h = writes_digit _ n w 0 (omega (arith, writes_some _ n w)) in let f = c.in_ok-first.ensures.cases in grind arith
 
-pub returns-then-b-lt48 : goal.returns-then-b-lt48
-returns-then-b-lt48 c = λ n w. let h = writes_digit _ n w c.loop-b.b-index (omega arith) in grind arith
+pub returns-then-not-is_empty : goal.returns-then-not-is_empty
+returns-then-not-is_empty c = λ n w. let h = writes_first _ n w (let f = c.in_ok-first.ensures.cases in grind arith) in let f = c.in_ok-first.ensures.cases in grind (arith, nat_tests)
 
-pub overflow_mul-n : goal.overflow_mul-n
-overflow_mul-n c = omega (arith, digits_small _ _ _ c.loop-b-test.true c.if-field-gt6.false c.loop-b.invariant.0 c.loop-b.invariant.1)
-
-pub overflow_add-n : goal.overflow_add-n
-overflow_add-n c = omega (arith, digits_small _ _ _ c.loop-b-test.true c.if-field-gt6.false c.loop-b.invariant.0 c.loop-b.invariant.1)
-
-pub loop-b-preserved : goal.loop-b-preserved
-loop-b-preserved c = digits_turn c.args.field.now c.loop-b.b-index c.loop-b.n c.loop-b-test.true (omega arith) c.loop-b.invariant.0 c.loop-b.invariant.1
+pub returns-in_default : goal.returns-in_default
+returns-in_default c = λ n w. c.in_default.ensures.cases.0 (subst IsUtf8 w.0 (IsUtf8-from_ascii _ (IsAscii-decimal n (omega arith))))
 
 pub returns : goal.returns
-returns c = digits_end _ _ _ c.loop-b-test.false c.loop-b.invariant.0 c.loop-b.invariant.1 (omega arith) c.if-field-gt6.false (λ z. ⊎_elim (λ p. p.1) (λ p. absurd (p z)) c.else-field-eq48.either)
+returns c =
+    let f = c.in_ok-first.ensures.cases in
+    let h = parsed c.args.field.now (grind arith) (omega arith) (grind (arith, nat_tests)) c.in-Ok.digits.now c.parse.result c.in-Ok.ensures.cases.0 c.parse.ensures.value.0 (grind arith) in
+    search rules

@@ -1,4 +1,4 @@
-use Rattle.std.proofs.Common.{rules, arith}
+use Rattle.std.proofs.Common.{rules}
 use Rattle.text.proofs.Cutting.{no_stroke}
 use Rattle.text.proofs.fields.stroke_field.Goals as goal
 

@@ -1,4 +1,4 @@
-use Rattle.std.proofs.Common.{ap, ◌∙◌, arith}
+use Rattle.std.proofs.Common.{◌∙◌}
 use Rattle.std.proofs.lemmas.List.{take_all}
 use Rattle.text.proofs.Appending.{appended_none, appended_same, front_put}
 use Rattle.text.proofs.pages.Page.number.Goals as goal
