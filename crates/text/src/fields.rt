@@ -1,6 +1,5 @@
 // The fields of a line, taken from its front one by one.
-ghost use Rattle.std.specs.Prelude.{◌≡◌, ℕ, List, ◌∷◌, MatchOption, ◌≢◌};
-ghost use Rattle.std.specs.Prelude.{MatchResult, ◌≤◌, ◌<◌};
+ghost use Rattle.std.specs.Prelude.{◌≡◌, ℕ, ◌<◌, ◌≤◌, List, ◌∷◌, MatchOption, MatchResult, ◌≢◌};
 ghost use Rattle.refusal.specs.declared.Refusal.TheVariants.{OutOfRange};
 ghost use Rattle.text.specs.Fields.{Writes, Field, NumberField, StrokeField, Numbered};
 

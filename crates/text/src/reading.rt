@@ -1,6 +1,5 @@
 // A text read line by line, for any form of lines.
-ghost use Rattle.std.specs.Prelude.{MatchResult};
-ghost use Rattle.std.specs.Prelude.{◌≡◌, ◌<◌, length};
+ghost use Rattle.std.specs.Prelude.{◌≡◌, ◌<◌, length, MatchResult};
 ghost use Rattle.text.specs.Reading.{Form, Plain, Leads, Ending, Ends};
 ghost use Rattle.text.specs.Readings.{fault_at, Takes, Refuses, RestRefuses, Finishes, ReadAs, Agrees};
 
