@@ -1,6 +1,5 @@
 pub mod Spelling
-pub mod Letters
-pub mod Standing
-pub mod Telling
+pub mod Ranging
 pub mod Putting
+pub mod Telling
 pub mod Returning

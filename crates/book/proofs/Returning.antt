@@ -14,7 +14,8 @@ use Rattle.book.specs.declared.rules.Rule.{Rule}
 use Rattle.book.specs.declared.books.Book.{Book}
 use Rattle.book.specs.Ranges.{Lawful}
 use Rattle.book.specs.Statements.{parts, rule, written_rule, rule_text, ShortSide, Stated, book_form}
-use Rattle.book.specs.Texts.{Listed, without_notes, Tells, Agrees, Told}
+use Rattle.text.specs.Reading.{Listed}
+use Rattle.book.specs.Texts.{without_notes, Tells, Agrees, Told}
 use Rattle.book.specs.Writing.{ended_line, written, book_text, Wrote, ReadBack}
 use Rattle.book.proofs.Telling.{tells_accepted}
 use Rattle.book.proofs.Putting.{Fits, all_fit, written_short, lawful_of}
@@ -30,7 +31,7 @@ rule_lacks p (Pair l r) t g hp h ht hg = (omega arith, fielded_lacks 10 _ (omega
 starts_line : (line after : List ℕ) → Lacks 10 line → Starts ((line ++ 10 ∷ []) ++ after) line after
 starts_line line after h = record { whole = sym (append_assoc line (10 ∷ []) after); apart = h }
 
-rules_listed : (k : ℕ) (rules : List Rule) → AllByRecursion (Fits k) rules → Listed (map rule rules) (flat_map (λ u. ended_line (rule u)) rules)
+rules_listed : (k : ℕ) (rules : List Rule) → AllByRecursion (Fits k) rules → Listed book_form (map rule rules) (flat_map (λ u. ended_line (rule u)) rules)
 rules_listed k [] h = refl
 rules_listed k (u ∷ us) h =
     let s = h.0.1 in
@@ -57,7 +58,7 @@ module _ (b : Book) (text : List ℕ) (same : text ≡ book_text b) where
   tells = subst (λ t. Tells t b.parts (vec_items b.rules)) (sym same) (written_tells _ _ (lawful_of b))
 
   -- the text is read as the book, and is written
-  pub again_same : (c : Book) (n : ℕ) (before after : List ℕ) → ((e : Ending Stated) → Ends book_form text e → Agrees e (Ok c)) → Wrote (book_text b) before (Ok n) after → ReadBack b before (Ok c) after
+  pub again_same : (c : Book) (n : ℕ) (before after : List ℕ) → ((e : Ending Stated) → Ends book_form text e → Agrees text e (Ok c)) → Wrote (book_text b) before (Ok n) after → ReadBack b before (Ok c) after
   again_same c n before after only w =
       let sum = only (stated (record { parts = Some b.parts; rules = vec_items b.rules })) (tells_accepted _ _ _ tells) in
       let e = ap (λ (d : Stated). d.parts) sum in

@@ -1,25 +1,21 @@
 -- What is read is what the text tells: the two ways to say what a book's text means are one. Assumes nothing.
-use Rattle.std.proofs.Common.{◌≡◌, ℕ, ◌+◌, ◌≤◌, List, [], ◌∷◌, ◌++◌, map, length, Some, Ok, Err, vec_items, Result, sym, refl, ap, ◌∙◌, subst, inl, inr, ⊎_elim, append_assoc, append-nil, arith}
+use Rattle.std.proofs.Common.{◌≡◌, ℕ, ◌+◌, ◌≤◌, List, [], ◌∷◌, ◌++◌, map, length, Some, Ok, Err, vec_items, Result, sym, refl, ap, ◌∙◌, subst, append_assoc, append-nil, arith}
 use Rattle.std.specs.List.{AllByRecursion}
 use Rattle.std.proofs.lemmas.List.{length_push}
 use Rattle.std.proofs.ByRecursion.{All-from_get_or}
-use Rattle.refusal.specs.declared.Refusal.{Refusal}
 use Rattle.refusal.specs.declared.Fault.{Fault}
-use Rattle.text.specs.Reading.{Reads, Accepted, Ending, stated, refused, Ends}
-use Rattle.text.proofs.Endings.{one_ending}
+use Rattle.refusal.specs.declared.Source.TheVariants as source
+use Rattle.text.specs.Reading.{Reads, Listed, Accepted, stated}
+use Rattle.text.proofs.Standing.{listed}
+use Rattle.text.proofs.Answering.{only_ending}
 use Rattle.book.specs.declared.rules.RightSide.TheVariants.{Cut}
 use Rattle.book.specs.declared.rules.Rule.{Rule}
 use Rattle.book.specs.declared.books.Book.{Book}
 use Rattle.book.specs.Ranges.{InRange, Lawful}
 use Rattle.book.specs.Statements.{Said, parts, rule, note, Stated, book_form}
-use Rattle.book.specs.Texts.{Listed, without_notes, Tells, stated_in, in_book, no_memory, WantsMemory, Outcome, Agrees, Told}
+use Rattle.book.specs.Texts.{without_notes, Tells, stated_in, IsRule, Outcome, Told}
 use Rattle.book.proofs.Spelling.{book_plain}
-use Rattle.book.proofs.Standing.{Sound, reads_sound}
-
--- the lines that were read
-listed : (ls : List Said) (sum : Stated) (bs : List ℕ) (whole : Stated) → Reads book_form ls sum bs whole [] → Listed ls bs
-listed [] sum bs whole h = h.1
-listed (l ∷ ls) sum bs whole h = (h.1.line, h.0, h.1.starts, h.1.stated, listed ls _ _ whole h.2)
+use Rattle.book.proofs.Putting.{lawful_of}
 
 -- after the number of parts come the rules
 record Then (k : ℕ) (done : List Rule) (ls : List Said) (whole : Stated) : Type 0 where
@@ -49,7 +45,7 @@ first_parts (parts n ∷ ls) bs k rules h =
 first_parts (rule u ∷ ls) bs k rules h = absurd h.1.passed.0
 
 -- and the other way
-rules_told : (k : ℕ) (ls : List Said) (done todo : List Rule) (bs : List ℕ) → Listed ls bs → without_notes ls ≡ map rule todo → AllByRecursion (InRange k) todo → length done + length todo ≤ 128 → Reads book_form ls (record { parts = Some k; rules = done }) bs (record { parts = Some k; rules = done ++ todo }) []
+rules_told : (k : ℕ) (ls : List Said) (done todo : List Rule) (bs : List ℕ) → Listed book_form ls bs → without_notes ls ≡ map rule todo → AllByRecursion (InRange k) todo → length done + length todo ≤ 128 → Reads book_form ls (record { parts = Some k; rules = done }) bs (record { parts = Some k; rules = done ++ todo }) []
 rules_told k [] done [] bs h e a n = (ap (λ l. record { parts = Some k; rules = l }) (sym (append-nil done)), h)
 rules_told k [] done (v ∷ vs) bs h e a n = let z : ◌≡◌ {A = ℕ} 0 1 = cc in absurd (omega arith)
 rules_told k (note w ∷ ls) done todo bs h e a n = (h.1, record { line = h.0; starts = h.2; stated = h.3; passed = tt }, rules_told k ls done todo h.1 h.4 e a n)
@@ -65,7 +61,7 @@ rules_told k (rule u ∷ ls) done (v ∷ vs) bs h e a n =
       subst (λ l. Reads book_form ls (record { parts = Some k; rules = done ++ u ∷ [] }) h.1 (record { parts = Some k; rules = l }) []) (append_assoc done (u ∷ []) vs ∙ ap (λ w. done ++ w ∷ vs) (sym same)) more,
     )
 
-parts_told : (k : ℕ) (ls : List Said) (rules : List Rule) (bs : List ℕ) → Lawful k rules → Listed ls bs → without_notes ls ≡ parts k ∷ map rule rules → Reads book_form ls book_form.blank bs (record { parts = Some k; rules = rules }) []
+parts_told : (k : ℕ) (ls : List Said) (rules : List Rule) (bs : List ℕ) → Lawful k rules → Listed book_form ls bs → without_notes ls ≡ parts k ∷ map rule rules → Reads book_form ls book_form.blank bs (record { parts = Some k; rules = rules }) []
 parts_told k [] rules bs w h e = let z : ◌≡◌ {A = ℕ} 0 1 = cc in absurd (omega arith)
 parts_told k (note v ∷ ls) rules bs w h e = (h.1, record { line = h.0; starts = h.2; stated = h.3; passed = tt }, parts_told k ls rules h.1 w h.4 e)
 parts_told k (parts n ∷ ls) rules bs w h e =
@@ -79,16 +75,14 @@ parts_told k (parts n ∷ ls) rules bs w h e =
     )
 parts_told k (rule u ∷ ls) rules bs w h e = let z : ◌≡◌ {A = ℕ} 0 1 = cc in absurd (omega arith)
 
-pub accepted_tells : (text : List ℕ) (k : ℕ) (rules : List Rule) → Accepted book_form text (record { parts = Some k; rules = rules }) → Tells text k rules
-accepted_tells text k rules a =
-    let s : Sound (Some k) rules = reads_sound a.lines book_form.blank text (record { parts = Some k; rules = rules }) [] refl a.reached.reads in
-    record {
-      short = a.reached.short;
-      lines = a.lines;
-      listed = listed a.lines book_form.blank text _ a.reached.reads;
-      told = first_parts a.lines text k rules a.reached.reads;
-      lawful = record { some_parts = s.0; few_parts = s.1; some_rules = a.passed.0; few_rules = s.2; ranged = s.3; lettered_strokes = s.4 };
-    }
+pub accepted_tells : (text : List ℕ) (k : ℕ) (rules : List Rule) → Lawful k rules → Accepted book_form text (record { parts = Some k; rules = rules }) → Tells text k rules
+accepted_tells text k rules w a = record {
+  short = a.reached.short;
+  lines = a.lines;
+  listed = listed book_form a.lines book_form.blank text _ a.reached.reads;
+  told = first_parts a.lines text k rules a.reached.reads;
+  lawful = w;
+}
 
 pub tells_accepted : (text : List ℕ) (k : ℕ) (rules : List Rule) → Tells text k rules → Accepted book_form text (record { parts = Some k; rules = rules })
 tells_accepted text k rules t = record {
@@ -97,34 +91,7 @@ tells_accepted text k rules t = record {
   passed = (t.lawful.some_rules, tt);
 }
 
--- an outcome leaves no other
-unlike : (sum : Stated) (r : Refusal) (n : ℕ) → stated sum ≡ refused r n → ⊥
-unlike sum r n e = let z : ◌≡◌ {A = ℕ} 0 1 = cc in omega arith
-
-abbrev Failed : List ℕ → Fault → Type 0
-Failed text f = (r : Refusal) × (number : ℕ) × (f ≡ in_book r number) × Ends book_form text (refused r number)
-
-one : (text : List ℕ) (x y : Ending Stated) → Ends book_form text x → Ends book_form text y → x ≡ y
-one = one_ending book_form book_plain
-
-pub only_ending : (text : List ℕ) (r : Result Book Fault) → Outcome text r → (e : Ending Stated) → Ends book_form text e → Agrees e r
-only_ending text (Ok b) o (stated sum) h = let e = one text (stated sum) (stated (stated_in b)) h o in cc
-only_ending text (Ok b) o (refused r n) h = unlike (stated_in b) r n (one text (stated (stated_in b)) (refused r n) o h)
-only_ending text (Err f) o (stated sum) h =
-    ⊎_elim
-    (λ (x : Failed text f). absurd (unlike sum x.0 x.1 (one text (stated sum) (refused x.0 x.1) h x.3)))
-    (λ (x : (f ≡ no_memory) × WantsMemory text). x.0)
-    o
-only_ending text (Err f) o (refused r n) h =
-    ⊎_elim
-    (λ (x : Failed text f).
-    let e = one text (refused x.0 x.1) (refused r n) x.3 h in
-    let e₁ : x.0 ≡ r = cc in
-    let e₂ : x.1 ≡ n = cc in
-    inl (x.2 ∙ (λ i. in_book (e₁ i) (e₂ i))))
-    (λ (x : (f ≡ no_memory) × WantsMemory text). inr x.0)
-    o
-
 pub told_by : (text : List ℕ) (r : Result Book Fault) → Outcome text r → Told text r
-told_by text (Ok b) o = accepted_tells text b.parts (vec_items b.rules) o
-told_by text (Err f) o = λ k rules t. only_ending text (Err f) o (stated (record { parts = Some k; rules = rules })) (tells_accepted text k rules t)
+told_by text (Ok b) o = accepted_tells text b.parts (vec_items b.rules) (lawful_of b) o
+told_by text (Err f) o = λ k rules t.
+    (only_ending book_form book_plain stated_in IsRule source.Book text (Err f) o (stated (record { parts = Some k; rules = rules })) (tells_accepted text k rules t)).0

@@ -1,5 +1,7 @@
 pub mod Ranges
 pub mod Statements
+pub mod Fields
+pub mod Lines
 pub mod Texts
-pub mod Steps
+pub mod Drafts
 pub mod Writing

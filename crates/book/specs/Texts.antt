@@ -5,17 +5,13 @@ use Rattle.refusal.specs.declared.Refusal.TheVariants.{OutOfMemory}
 use Rattle.refusal.specs.declared.Source.TheVariants as source
 use Rattle.refusal.specs.declared.Fault.{Fault}
 use Rattle.refusal.specs.Faults.{on_sheet, in_text}
-use Rattle.text.specs.Lines.{Starts}
-use Rattle.text.specs.Reading.{Leads, Reached, Ending, stated, refused, Ends}
+use Rattle.text.specs.Reading.{Listed, Ending}
+use Rattle.text.specs.Readings.{no_memory, ReadAs}
+use Rattle.text.specs.Readings as readings
 use Rattle.book.specs.declared.rules.Rule.{Rule}
 use Rattle.book.specs.declared.books.Book.{Book}
 use Rattle.book.specs.Ranges.{Lawful}
 use Rattle.book.specs.Statements.{Said, parts, rule, note, States, Stated, book_form}
-
--- the text is lines that state these, each ended by byte 10
-abbrev pub Listed : List Said → List ℕ → Type 0
-Listed [] text = text ≡ []
-Listed (said ∷ more) text = (line : List ℕ) × (after : List ℕ) × Starts text line after × States line said × Listed more after
 
 -- the lines without the notes
 abbrev pub without_notes : List Said → List Said
@@ -28,7 +24,7 @@ without_notes (note words ∷ more) = without_notes more
 pub record Tells (text : List ℕ) (k : ℕ) (rules : List Rule) : Type 0 where
   pub short : length text ≤ 8192
   pub lines : List Said
-  pub listed : Listed lines text
+  pub listed : Listed book_form lines text
   pub told : without_notes lines ≡ parts k ∷ map rule rules
   pub lawful : Lawful k rules
 
@@ -36,34 +32,23 @@ pub record Tells (text : List ℕ) (k : ℕ) (rules : List Rule) : Type 0 where
 abbrev pub stated_in : Book → Stated
 stated_in b = record { parts = Some b.parts; rules = vec_items b.rules }
 
--- no memory, for a rule that passes every test at its line
-abbrev pub no_memory : Fault
-no_memory = on_sheet OutOfMemory
-
-pub record WantsMemory (text : List ℕ) : Type 0 where
-  pub before : List Said
-  pub sum : Stated
-  pub rest : List ℕ
-  pub reached : Reached book_form text before sum rest
-  pub next : Rule
-  pub after : List ℕ
-  pub leads : Leads book_form sum rest (rule next) after
+-- a rule, for which there may be no memory
+abbrev pub IsRule : Said → Type 0
+IsRule (parts k) = ⊥
+IsRule (rule u) = Unit {0}
+IsRule (note words) = ⊥
 
 -- the refusal at a line of a book's text
 abbrev pub in_book : Refusal → ℕ → Fault
 in_book r number = in_text source.Book r number
 
--- r is the book that the text states, or the first refusal with its line; or there was no memory
+-- r is the book that the text states, or the first refusal with its line; or there was no memory for a rule
 abbrev pub Outcome : List ℕ → Result Book Fault → Type 0
-Outcome text (Ok b) = Ends book_form text (stated (stated_in b))
-Outcome text (Err f) = ((r : Refusal) × (number : ℕ) × (f ≡ in_book r number) × Ends book_form text (refused r number)) ⊎ ((f ≡ no_memory) × WantsMemory text)
+Outcome text r = ReadAs book_form stated_in IsRule source.Book text r
 
--- r is that ending, unless there was no memory
-abbrev pub Agrees : Ending Stated → Result Book Fault → Type 0
-Agrees (stated sum) (Ok b) = sum ≡ stated_in b
-Agrees (stated sum) (Err f) = f ≡ no_memory
-Agrees (refused r number) (Ok b) = ⊥
-Agrees (refused r number) (Err f) = (f ≡ in_book r number) ⊎ (f ≡ no_memory)
+-- r is that ending, unless there was no memory for a rule
+abbrev pub Agrees : List ℕ → Ending Stated → Result Book Fault → Type 0
+Agrees text e r = readings.Agrees book_form stated_in IsRule source.Book text e r
 
 -- an accepted text tells the book that was read
 abbrev pub Told : List ℕ → Result Book Fault → Type 0

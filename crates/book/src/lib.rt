@@ -2,6 +2,9 @@
 #![tactic(auto)]
 
 mod books;
+mod drafts;
+mod fields;
+mod lines;
 mod reading;
 mod rules;
 mod writing;

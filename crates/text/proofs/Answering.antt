@@ -1,54 +1,12 @@
 -- From the lines that were read to what the reader answers. Assumes nothing.
-use Rattle.std.proofs.Common.{◌≡◌, ℕ, ◌≤◌, List, length, Ok, Err, Result, ◌≢◌, refl, sym, ap, ◌∙◌, subst, inl, inr, ⊎_elim}
+use Rattle.std.proofs.Common.{◌≡◌, ℕ, List, Ok, Err, Result, ◌∙◌, inl, inr, ⊎_elim}
 use Rattle.refusal.specs.declared.Refusal.{Refusal}
-use Rattle.refusal.specs.declared.Refusal.TheVariants.{NoSuchPlace, NotAStroke, NotOpen, MarksFull, WrongSlip, BadLength, LimitBarred, BoardTooShort, LentTooShort, NoRun, TextTooLong, UnknownLine, MalformedField, PartsMisplaced, OutOfRange, TooManyRules, NoRule, LimitMisplaced, TooManyPlaces, OutOfMemory}
 use Rattle.refusal.specs.declared.Source.{Source}
 use Rattle.refusal.specs.declared.Fault.{Fault}
 use Rattle.refusal.specs.Faults.{in_text}
-use Rattle.text.specs.Reading.{Form, Plain, Refused, Ending, stated, refused, Ends}
-use Rattle.text.specs.Readings.{no_memory, fault_at, Finishes, RestRefuses, RestWants, WantsMemory, ReadAs, Agrees}
+use Rattle.text.specs.Reading.{Form, Plain, Ending, stated, refused, Ends}
+use Rattle.text.specs.Readings.{no_memory, WantsMemory, ReadAs, Agrees}
 use Rattle.text.proofs.Endings.{one_ending, apart}
-use Rattle.text.proofs.Standing.{Sofar, ends_refused, ends_failed, ends_stated}
-
--- a refusal other than want of memory is at the line
-pub at_line : (s : Source) (r : Refusal) (n : ℕ) → r ≢ OutOfMemory → fault_at s r n ≡ in_text s r n
-at_line s NoSuchPlace n h = refl
-at_line s NotAStroke n h = refl
-at_line s NotOpen n h = refl
-at_line s MarksFull n h = refl
-at_line s WrongSlip n h = refl
-at_line s BadLength n h = refl
-at_line s LimitBarred n h = refl
-at_line s BoardTooShort n h = refl
-at_line s LentTooShort n h = refl
-at_line s NoRun n h = refl
-at_line s TextTooLong n h = refl
-at_line s UnknownLine n h = refl
-at_line s MalformedField n h = refl
-at_line s PartsMisplaced n h = refl
-at_line s OutOfRange n h = refl
-at_line s TooManyRules n h = refl
-at_line s NoRule n h = refl
-at_line s LimitMisplaced n h = refl
-at_line s TooManyPlaces n h = refl
-at_line s OutOfMemory n h = absurd (h refl)
-
-module _ {Said Sum Whole : Type 0} {form : Form Said Sum} (whole : Whole → Sum) (wants : Said → Type 0) (source : Source) {text : List ℕ} {number : ℕ} {sum : Sum} {rest : List ℕ} (s : Sofar form text number sum rest) (short : length text ≤ 8192) where
-  -- a line stops the reading
-  pub read_stopped : (r : Refusal) → RestRefuses form wants sum rest r → ReadAs form whole wants source text (Err (fault_at source r number))
-  read_stopped r h =
-      ⊎_elim
-      (λ (x : (r ≢ OutOfMemory) × Refused form sum rest r). inl (r, number, at_line source r number x.0, ends_refused s short r x.1))
-      (λ (x : (r ≡ OutOfMemory) × RestWants form wants sum rest).
-      inr (ap (λ q. fault_at source q number) x.0, record { before = s.before; sum = sum; rest = rest; reached = record { short = short; reads = s.reads }; next = x.1 }))
-      h
-
-  -- the text ends
-  pub read_refused : (r : Refusal) → length rest ≡ 0 → Finishes form whole sum (Err r) → ReadAs form whole wants source text (Err (fault_at source r number))
-  read_refused r e h = inl (r, number, at_line source r number h.0, ends_failed s short r e h.1)
-
-  pub read_whole : (w : Whole) → length rest ≡ 0 → Finishes form whole sum (Ok w) → ReadAs form whole wants source text (Ok w)
-  read_whole w e h = subst (λ d. Ends form text (stated d)) (sym h.1) (ends_stated s short e h.0)
 
 -- an answer leaves no other
 module _ {Said Sum Whole : Type 0} (form : Form Said Sum) (plain : Plain form) (whole : Whole → Sum) (wants : Said → Type 0) (source : Source) (text : List ℕ) where

@@ -1,7 +1,7 @@
 // A text read line by line, for any form of lines.
 ghost use Rattle.std.specs.Prelude.{◌≡◌, ◌<◌, length, MatchResult};
-ghost use Rattle.text.specs.Reading.{Form, Plain, Leads, Ending, Ends};
-ghost use Rattle.text.specs.Readings.{fault_at, Takes, Refuses, RestRefuses, Finishes, ReadAs, Agrees};
+ghost use Rattle.text.specs.Reading.{Form, Leads};
+ghost use Rattle.text.specs.Readings.{fault_at, Takes, Refuses, RestRefuses, Finishes, ReadAs};
 
 use crate::lines::first_line;
 use refusal::{Fault, Refusal, Source};
@@ -34,9 +34,6 @@ pub trait Draft: Drop {
     // What the text states that ends here, or why it is refused.
     fn finish(self) -> Result<Self::Whole, Refusal>
         ensures { Finishes form whole (stated self) result };
-
-    // a line states one thing at the most
-    ghost plain: { Plain form };
 }
 
 // The fault of a text that is refused at a line; for want of memory no line is at fault.
@@ -61,8 +58,7 @@ fn take_line<'a, D: Draft>(draft: &mut D, rest: &'a [u8]) -> Result<&'a [u8], Re
 
 // What the text states, by a draft that begins with no line; or the first refusal in the order of the tests, with its line.
 pub fn read<D: Draft>(draft: D, source: Source, text: &[u8]) -> Result<D::Whole, Fault>
-    ensures outcome { D.stated draft ≡ D.form.blank → ReadAs D.form D.whole D.wants_memory source text.now result }
-    ensures only { D.stated draft ≡ D.form.blank → (e : Ending D.Sum) → Ends D.form text.now e → Agrees D.form D.whole D.wants_memory source text.now e result }
+    ensures { D.stated draft ≡ D.form.blank → ReadAs D.form D.whole D.wants_memory source text.now result }
 {
     if text.len() > 8192 {
         return Err(Fault::in_text(source, Refusal::TextTooLong, 0));

@@ -1,8 +1,0 @@
-use Rattle.book.proofs.Spelling.{no_pair, is_pair}
-use Rattle.book.proofs.reading.pair_line.Goals as goal
-
-pub returns-in_err-part : goal.returns-in_err-part
-returns-in_err-part c = rw c.from_residual.ensures (no_pair _ c.in_err-part.ensures)
-
-pub returns : goal.returns
-returns c = is_pair c.in_ok-part.ensures

@@ -1,8 +1,0 @@
-use Rattle.book.proofs.Spelling.{no_parts, is_parts}
-use Rattle.book.proofs.reading.parts_line.Goals as goal
-
-pub returns-in_err-k : goal.returns-in_err-k
-returns-in_err-k c = rw c.from_residual.ensures (no_parts _ c.in_err-k.ensures)
-
-pub returns : goal.returns
-returns c = is_parts c.in_ok-k.ensures

@@ -1,0 +1,109 @@
+// What the lines of a book's text state together, while it is read.
+ghost use Rattle.std.specs.Prelude.{◌≡◌, true};
+ghost use Rattle.book.specs.Ranges.{lettered, Sound};
+ghost use Rattle.book.specs.Statements.{Said, parts, rule as rule_said, RangedIn, Stated, book_form};
+ghost use Rattle.book.specs.Texts.{stated_in, IsRule};
+ghost use Rattle.book.specs.Lines.{said_by};
+
+use crate::books::Book;
+use crate::lines::{Line, read_line};
+use crate::rules::Rule;
+use refusal::Refusal;
+use std::alloc::Global;
+use text::Draft;
+
+// What the lines so far state. Where no number of parts stood there is no rule, and what there is keeps to its ranges.
+#[derive(Drop)]
+pub(crate) struct BookDraft {
+    parts: Option<u8>,
+    rules: Vec<Rule>,
+    ghost sound: { Sound parts rules.items },
+}
+
+impl BookDraft {
+    ghost use Rattle.book.specs.Drafts.{stated_by, Adds};
+
+    // Nothing yet.
+    pub(crate) fn new(heap: Global) -> BookDraft
+        ensures { stated_by result ≡ book_form.blank }
+    {
+        BookDraft {
+            parts: None,
+            rules: Vec::new(heap),
+        }
+    }
+
+    // Takes the number of parts.
+    fn set_parts(&mut self, k: u32) -> Result<(), Refusal>
+        ensures { Adds self.old (parts k) result self.new }
+    {
+        if self.parts.is_some() {
+            return Err(Refusal::PartsMisplaced);
+        }
+        if k < 1 || k > 32 {
+            return Err(Refusal::OutOfRange);
+        }
+        self.parts = Some(k as u8);
+        Ok(())
+    }
+
+    // Takes a rule whose numbers are in range.
+    fn push(&mut self, rule: Rule) -> Result<(), Refusal>
+        requires ranged { RangedIn self.old.parts rule }
+        requires lettered { lettered rule.side ≡ true }
+        ensures { Adds self.old (rule_said rule) result self.new }
+    {
+        if self.rules.len() >= 128 {
+            return Err(Refusal::TooManyRules);
+        }
+        self.rules.push(rule)?;
+        Ok(())
+    }
+
+    // Takes what one more line states.
+    fn add(&mut self, line: Line) -> Result<(), Refusal>
+        ensures { Adds self.old (said_by line) result self.new }
+    {
+        match line {
+            Line::Note(_) => Ok(()),
+            Line::Parts(k) => self.set_parts(k),
+            Line::Cut(fields) => {
+                let parts = self.parts.ok_or(Refusal::PartsMisplaced)?;
+                self.push(fields.rule(parts)?)
+            }
+            Line::Pair(fields) => {
+                let parts = self.parts.ok_or(Refusal::PartsMisplaced)?;
+                self.push(fields.rule(parts)?)
+            }
+        }
+    }
+}
+
+impl Draft for BookDraft {
+    type Whole = Book;
+
+    ghost Said = { Said };
+
+    ghost Sum = { Stated };
+
+    ghost form = { book_form };
+
+    ghost stated = { λ d. record { parts = d.parts; rules = d.rules.items } };
+
+    ghost whole = { stated_in };
+
+    ghost wants_memory = { IsRule };
+
+    fn take(&mut self, line: &[u8]) -> Result<(), Refusal> {
+        self.add(read_line(line)?)
+    }
+
+    fn finish(self) -> Result<Book, Refusal> {
+        let BookDraft { parts, rules } = self;
+        let parts = parts.ok_or(Refusal::NoRule)?;
+        if rules.is_empty() {
+            return Err(Refusal::NoRule);
+        }
+        Ok(Book { parts, rules })
+    }
+}
