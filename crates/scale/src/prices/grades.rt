@@ -29,11 +29,11 @@ impl Scale for Grade {
     ghost lawful = { grade_laws };
 
     fn at_most(self, other: Grade) -> bool {
-        self.level <= other.level
+        self <= other
     }
 
     fn join(self, other: Grade) -> Grade {
-        Grade::new(self.level.max(other.level))
+        self.max(other)
     }
 
     fn free() -> Grade {
@@ -54,11 +54,10 @@ impl fmt::Display for Grade {
     ghost output = { λ g. Some (grade_text g) };
 
     fn fmt<W: fmt::Write>(&self, f: &mut fmt::Formatter<W>) -> fmt::Result {
-        let level = self.level;
-        if level == u8::MAX {
+        if self.is_barred() {
             write!(f, "barred")
         } else {
-            write!(f, "{level}")
+            write!(f, "{}", self.level)
         }
     }
 }

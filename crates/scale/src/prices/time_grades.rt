@@ -43,8 +43,7 @@ impl Scale for TimeGrade {
     ghost lawful = { time_grade_laws };
 
     fn at_most(self, other: TimeGrade) -> bool {
-        let sooner = self.tenths < other.tenths;
-        sooner || (self.tenths == other.tenths && self.level <= other.level)
+        self <= other
     }
 
     fn join(self, other: TimeGrade) -> TimeGrade {
@@ -70,12 +69,10 @@ impl fmt::Display for TimeGrade {
     ghost output = { λ p. Some (time_grade_text p) };
 
     fn fmt<W: fmt::Write>(&self, f: &mut fmt::Formatter<W>) -> fmt::Result {
-        let tenths = self.tenths;
-        let level = self.level;
-        if tenths == u32::MAX {
+        if self.is_barred() {
             write!(f, "barred")
         } else {
-            write!(f, "{tenths} {level}")
+            write!(f, "{} {}", self.tenths, self.level)
         }
     }
 }

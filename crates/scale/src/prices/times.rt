@@ -29,7 +29,7 @@ impl Scale for Time {
     ghost lawful = { time_laws };
 
     fn at_most(self, other: Time) -> bool {
-        self.tenths <= other.tenths
+        self <= other
     }
 
     fn join(self, other: Time) -> Time {
@@ -54,11 +54,10 @@ impl fmt::Display for Time {
     ghost output = { λ t. Some (time_text t) };
 
     fn fmt<W: fmt::Write>(&self, f: &mut fmt::Formatter<W>) -> fmt::Result {
-        let tenths = self.tenths;
-        if tenths == u32::MAX {
+        if self.is_barred() {
             write!(f, "barred")
         } else {
-            write!(f, "{tenths}")
+            write!(f, "{}", self.tenths)
         }
     }
 }
