@@ -3,7 +3,7 @@ use Rattle.std.specs.Prelude.{ℕ, min, max, if◌then◌else◌, List, codes, d
 use Rattle.std.proofs.Math.Nat.{min-le_right}
 use Rattle.scale.specs.Barred.{barred_level}
 use Rattle.scale.specs.Ops.{Ops}
-use Rattle.scale.specs.declared.prices.Grade.{Grade}
+use Rattle.scale.specs.declared.prices.grades.Grade.{Grade}
 
 -- the blade heat n, and barred from 255 on
 abbrev pub grade_of : ℕ → Grade

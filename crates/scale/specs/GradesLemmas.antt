@@ -4,8 +4,8 @@ use Rattle.std.proofs.Common.{ap, arith}
 use Rattle.std.proofs.lemmas.Bool.Decides.{nat_tests}
 use Rattle.scale.specs.Ops.{Laws}
 use Rattle.scale.specs.Grades.{grade_ops}
-use Rattle.scale.specs.contracts.prices.Grade.{the_row}
-use Rattle.scale.specs.declared.prices.Grade.{Grade}
+use Rattle.scale.specs.contracts.prices.grades.Grade.{the_row}
+use Rattle.scale.specs.declared.prices.grades.Grade.{Grade}
 
 -- free and barred differ in their level
 free_is_open : grade_ops.free ≢ grade_ops.barred

@@ -4,7 +4,7 @@ use Rattle.std.proofs.Common.{arith}
 use Rattle.std.proofs.lemmas.Bool.Decides.{nat_tests}
 use Rattle.scale.specs.Barred.{barred_tenths, barred_level}
 use Rattle.scale.specs.Ops.{Ops}
-use Rattle.scale.specs.declared.prices.TimeGrade.{TimeGrade}
+use Rattle.scale.specs.declared.prices.time_grades.TimeGrade.{TimeGrade}
 
 -- whether neither the time t nor the grade g is barred
 abbrev pub both_open : ℕ → ℕ → Bool

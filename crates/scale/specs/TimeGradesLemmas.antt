@@ -4,8 +4,8 @@ use Rattle.std.proofs.Common.{ap, arith}
 use Rattle.std.proofs.lemmas.Bool.Decides.{nat_tests}
 use Rattle.scale.specs.Ops.{Laws}
 use Rattle.scale.specs.TimeGrades.{time_grade_ops}
-use Rattle.scale.specs.contracts.prices.TimeGrade.{the_row}
-use Rattle.scale.specs.declared.prices.TimeGrade.{TimeGrade}
+use Rattle.scale.specs.contracts.prices.time_grades.TimeGrade.{the_row}
+use Rattle.scale.specs.declared.prices.time_grades.TimeGrade.{TimeGrade}
 
 -- by `the_row.coded.inj` pairs of as many tenths and the same level are the same
 pub time_grade_laws : Laws time_grade_ops

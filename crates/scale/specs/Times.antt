@@ -3,7 +3,7 @@ use Rattle.std.specs.Prelude.{ℕ, ◌+◌, min, if◌then◌else◌, List, code
 use Rattle.std.proofs.Math.Nat.{min-le_right}
 use Rattle.scale.specs.Barred.{barred_tenths}
 use Rattle.scale.specs.Ops.{Ops}
-use Rattle.scale.specs.declared.prices.Time.{Time}
+use Rattle.scale.specs.declared.prices.times.Time.{Time}
 
 -- n tenths of a second, and barred from 4294967295 on
 abbrev pub time : ℕ → Time

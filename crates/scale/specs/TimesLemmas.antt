@@ -4,8 +4,8 @@ use Rattle.std.proofs.Common.{ap, arith}
 use Rattle.std.proofs.lemmas.Bool.Decides.{nat_tests}
 use Rattle.scale.specs.Ops.{Laws}
 use Rattle.scale.specs.Times.{time_ops}
-use Rattle.scale.specs.contracts.prices.Time.{the_row}
-use Rattle.scale.specs.declared.prices.Time.{Time}
+use Rattle.scale.specs.contracts.prices.times.Time.{the_row}
+use Rattle.scale.specs.declared.prices.times.Time.{Time}
 
 -- free and barred differ in their tenths
 free_is_open : time_ops.free ≢ time_ops.barred
