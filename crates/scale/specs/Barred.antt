@@ -1,10 +1,10 @@
--- The numbers that are barred: the largest of each kind. Assumes nothing.
+-- The numbers that are barred, each the largest of its kind. Assumes nothing.
 use Rattle.std.specs.Prelude.{ℕ}
 
--- so many tenths of a second are barred
+-- the number of tenths of a second that is barred: the largest of 32 bits
 abbrev pub barred_tenths : ℕ
 barred_tenths = 4294967295
 
--- a blade heat of this number is barred
+-- the number of a blade heat that is barred: the largest of 8 bits
 abbrev pub barred_level : ℕ
 barred_level = 255

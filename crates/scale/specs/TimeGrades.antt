@@ -17,7 +17,7 @@ tenths_of t g = if both_open t g then t else barred_tenths
 abbrev pub level_of : ℕ → ℕ → ℕ
 level_of t g = if both_open t g then g else barred_level
 
--- what each pair keeps holds of these two
+-- what each pair keeps holds of these two: proofs, which the pair below carries
 pub tenths_of_in_range : (t g : ℕ) → tenths_of t g ≤ barred_tenths
 tenths_of_in_range t g = grind (arith, nat_tests)
 

@@ -1,4 +1,5 @@
--- Proof that the scale of time shows the laws; nothing in it has to be believed. It stands in specs/, since the ghost member `lawful` may name no file of proofs/.
+-- The scale of time shows the laws. Nothing here has to be believed. Assumes nothing.
+-- The proof stands in specs/, since a ghost member, as `lawful`, may name no file of proofs/.
 use Rattle.std.specs.Prelude.{◌≢◌}
 use Rattle.std.proofs.Common.{ap, arith}
 use Rattle.std.proofs.lemmas.Bool.Decides.{nat_tests}
