@@ -1,3 +1,4 @@
+pub mod Barred
 pub mod Ops
 pub mod Times
 pub mod Grades

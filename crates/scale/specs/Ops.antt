@@ -1,5 +1,5 @@
 -- What a scale of prices is: what its calls answer, and the laws that hold of the answers. Assumes nothing.
-use Rattle.std.specs.Prelude.{◌≡◌, ℕ, Bool, true, cond, ◌≢◌, ◌⊎◌}
+use Rattle.std.specs.Prelude.{◌≡◌, ℕ, Bool, true, if◌then◌else◌, ◌≢◌, ◌⊎◌}
 
 -- what the calls of a scale answer, over its values S
 pub record Ops (S : Type 0) : Type 0 where
@@ -38,4 +38,4 @@ pub record Laws {S : Type 0} (o : Ops S) : Type 0 where
 
 -- of two values the one that is not above the other
 abbrev pub lesser_of : {S : Type 0} → Ops S → S → S → S
-lesser_of o a b = cond (o.le a b) a b
+lesser_of o a b = if o.le a b then a else b

@@ -1,28 +1,41 @@
 -- The scale of time and then grade: the pair of 0 and 0 is free, and a pair with a barred part is barred. Assumes nothing.
-use Rattle.std.specs.Prelude.{◌≡◌, ℕ, ◌+◌, max, Bool, true, false, cond, ◌&&◌, ◌||◌, List, ◌++◌, codes, decimal, ◌==◌, nat_le, nat_lt, refl}
+use Rattle.std.specs.Prelude.{◌≡◌, ℕ, ◌+◌, ◌≤◌, ◌↔◌, max, Bool, if◌then◌else◌, ◌&&◌, ◌||◌, List, ◌++◌, codes, decimal, ◌==◌, nat_le, nat_lt}
 use Rattle.std.proofs.Common.{arith}
-use Rattle.std.proofs.lemmas.Bool.{and_parts, ltb-true}
+use Rattle.std.proofs.lemmas.Bool.Decides.{nat_tests}
+use Rattle.scale.specs.Barred.{barred_tenths, barred_level}
 use Rattle.scale.specs.Ops.{Ops}
-use Rattle.scale.specs.declared.prices.TimeGrade.{TimeGrade, ok-type}
+use Rattle.scale.specs.declared.prices.time_grades.TimeGrade.{TimeGrade}
 
 -- whether neither the time t nor the grade g is barred
 abbrev pub both_open : ℕ → ℕ → Bool
-both_open t g = nat_lt t 4294967295 && nat_lt g 255
+both_open t g = nat_lt t barred_tenths && nat_lt g barred_level
 
--- in the pair below both parts are barred or neither is
-pub one_form : (t g : ℕ) (b : Bool) → both_open t g ≡ b → ok-type (cond b t 4294967295) (cond b g 255)
-one_form t g true e =
-    let p = and_parts (nat_lt t 4294967295) (nat_lt g 255) e in
-    let x = ltb-true t 4294967295 p.0 in
-    let y = ltb-true g 255 p.1 in
-    (omega arith, omega arith, λ h. omega arith, λ h. omega arith)
-one_form t g false e = (omega arith, omega arith, λ _. refl, λ _. refl)
+-- the tenths and the level of the pair of t and g: their own where both are open, and otherwise the barred ones
+abbrev pub tenths_of : ℕ → ℕ → ℕ
+tenths_of t g = if both_open t g then t else barred_tenths
+
+abbrev pub level_of : ℕ → ℕ → ℕ
+level_of t g = if both_open t g then g else barred_level
+
+-- what each pair keeps holds of these two: proofs, which the pair below carries
+pub tenths_of_in_range : (t g : ℕ) → tenths_of t g ≤ barred_tenths
+tenths_of_in_range t g = grind (arith, nat_tests)
+
+pub level_of_in_range : (t g : ℕ) → level_of t g ≤ barred_level
+level_of_in_range t g = grind (arith, nat_tests)
+
+pub both_barred_or_neither : (t g : ℕ) → (tenths_of t g ≡ barred_tenths) ↔ (level_of t g ≡ barred_level)
+both_barred_or_neither t g = grind (arith, nat_tests)
 
 -- the pair of t tenths of a second and the grade g where both are open, and otherwise the one barred pair
 abbrev pub time_grade : ℕ → ℕ → TimeGrade
-time_grade t g =
-    let b = both_open t g in
-    record { tenths = cond b t 4294967295; level = cond b g 255; ok = one_form t g b refl }
+time_grade t g = record {
+  tenths = tenths_of t g;
+  level = level_of t g;
+  tenths_in_range = tenths_of_in_range t g;
+  level_in_range = level_of_in_range t g;
+  barred_together = both_barred_or_neither t g;
+}
 
 -- whether a is not above b: by time, and at equal time by grade
 abbrev pub by_time_then_grade : TimeGrade → TimeGrade → Bool
@@ -34,10 +47,10 @@ time_grade_ops = record {
   le = by_time_then_grade;
   join = λ a b. time_grade (a.tenths + b.tenths) (max a.level b.level);
   free = time_grade 0 0;
-  barred = time_grade 4294967295 255;
+  barred = time_grade barred_tenths barred_level;
   price = time_grade;
 }
 
 -- what is printed: the tenths, one space and the level, in decimal digits, or the word barred
 abbrev pub time_grade_text : TimeGrade → List ℕ
-time_grade_text p = cond (p.tenths == 4294967295) (codes "barred") (decimal p.tenths ++ (codes " " ++ decimal p.level))
+time_grade_text p = if p.tenths == barred_tenths then codes "barred" else decimal p.tenths ++ (codes " " ++ decimal p.level)

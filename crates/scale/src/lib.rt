@@ -1,7 +1,7 @@
 // What a price is: a value of a scale. The three scales that prices are counted in are `Time`, `Grade` and `TimeGrade`.
 #![tactic(auto)]
 
-ghost use Rattle.std.specs.Prelude.{◌≡◌, Decides};
+ghost use Rattle.std.specs.Prelude.{◌≡◌, ◌↔◌, IsTrue};
 ghost use Rattle.scale.specs.Ops.{Ops, Laws, lesser_of};
 
 mod prices;
@@ -13,7 +13,7 @@ pub trait Scale: Copy {
     // What the calls below answer.
     ghost ops: { Ops Self };
 
-    // Whether `self` is not above `other`.
+    // Whether `self` is not above `other`. Code over any scale goes by `ops.le` and its laws, so no `Ord` is asked of a scale.
     fn at_most(self, other: Self) -> bool
         ensures { result ≡ ops.le self other };
 
@@ -42,7 +42,7 @@ pub trait Scale: Copy {
 
     // Whether this is the barred price.
     fn is_barred(self) -> bool
-        ensures { Decides result (self ≡ ops.barred) }
+        ensures { IsTrue result ↔ (self ≡ ops.barred) }
     {
         Self::barred().at_most(self)
     }

@@ -1,13 +1,20 @@
 // The scale of grades: work at several blade heats needs the greatest of them.
-ghost use Rattle.std.specs.Prelude.{◌≡◌, Some};
-ghost use Rattle.scale.specs.Grades.{grade_of, grade_ops, grade_text};
-ghost use Rattle.scale.specs.GradesLemmas.{grade_laws};
+ghost use Rattle.std.specs.Prelude.{◌≡◌, ◌≤◌};
+ghost use Rattle.scale.specs.Barred.{barred_level};
 
 use crate::Scale;
-use crate::prices::Grade;
 use std::fmt;
 
+// A grade, which is a blade heat. The largest number is barred, and 0 is free.
+#[derive(Clone, Copy, PartialEq, Eq, PartialOrd, Ord, Debug)]
+pub struct Grade {
+    level: u8,
+    ghost in_range: { level ≤ barred_level },
+}
+
 impl Grade {
+    ghost use Rattle.scale.specs.Grades.{grade_of};
+
     // The blade heat of this number, and barred at the largest.
     pub fn new(level: u8) -> Grade
         ensures { result ≡ grade_of level }
@@ -24,16 +31,19 @@ impl Grade {
 }
 
 impl Scale for Grade {
+    ghost use Rattle.scale.specs.Grades.{grade_ops};
+    ghost use Rattle.scale.specs.GradesLemmas.{grade_laws};
+
     ghost ops = { grade_ops };
 
     ghost lawful = { grade_laws };
 
     fn at_most(self, other: Grade) -> bool {
-        self.level <= other.level
+        self <= other
     }
 
     fn join(self, other: Grade) -> Grade {
-        Grade::new(self.level.max(other.level))
+        self.max(other)
     }
 
     fn free() -> Grade {
@@ -51,14 +61,16 @@ impl Scale for Grade {
 
 // The number of the blade heat, or `barred`.
 impl fmt::Display for Grade {
+    ghost use Rattle.std.specs.Prelude.{Some};
+    ghost use Rattle.scale.specs.Grades.{grade_text};
+
     ghost output = { λ g. Some (grade_text g) };
 
     fn fmt<W: fmt::Write>(&self, f: &mut fmt::Formatter<W>) -> fmt::Result {
-        let level = self.level;
-        if level == u8::MAX {
+        if self.is_barred() {
             write!(f, "barred")
         } else {
-            write!(f, "{level}")
+            write!(f, "{}", self.level)
         }
     }
 }

@@ -1,13 +1,24 @@
 // The scale of time and then grade: times add up, the greatest grade stands, and the grade decides only between equal times.
-ghost use Rattle.std.specs.Prelude.{◌≡◌, Some};
-ghost use Rattle.scale.specs.TimeGrades.{time_grade, time_grade_ops, time_grade_text};
-ghost use Rattle.scale.specs.TimeGradesLemmas.{time_grade_laws};
+ghost use Rattle.std.specs.Prelude.{◌≡◌, ◌≤◌, ◌↔◌};
+ghost use Rattle.scale.specs.Barred.{barred_tenths, barred_level};
 
 use crate::Scale;
-use crate::prices::TimeGrade;
 use std::fmt;
 
+// A time in tenths of a second, and a grade. Where one part is the barred number so is the other: there is one barred pair.
+// Pairs go by their time, and at equal time by their grade: the order of the fields is the order that is derived.
+#[derive(Clone, Copy, PartialEq, Eq, PartialOrd, Ord, Debug)]
+pub struct TimeGrade {
+    tenths: u32,
+    level: u8,
+    ghost tenths_in_range: { tenths ≤ barred_tenths },
+    ghost level_in_range: { level ≤ barred_level },
+    ghost barred_together: { (tenths ≡ barred_tenths) ↔ (level ≡ barred_level) },
+}
+
 impl TimeGrade {
+    ghost use Rattle.scale.specs.TimeGrades.{time_grade};
+
     // The pair of a time and a grade, or the one barred pair where a part is barred.
     pub fn new(tenths: u32, level: u8) -> TimeGrade
         ensures { result ≡ time_grade tenths level }
@@ -38,13 +49,15 @@ impl TimeGrade {
 }
 
 impl Scale for TimeGrade {
+    ghost use Rattle.scale.specs.TimeGrades.{time_grade_ops};
+    ghost use Rattle.scale.specs.TimeGradesLemmas.{time_grade_laws};
+
     ghost ops = { time_grade_ops };
 
     ghost lawful = { time_grade_laws };
 
     fn at_most(self, other: TimeGrade) -> bool {
-        let sooner = self.tenths < other.tenths;
-        sooner || (self.tenths == other.tenths && self.level <= other.level)
+        self <= other
     }
 
     fn join(self, other: TimeGrade) -> TimeGrade {
@@ -67,15 +80,16 @@ impl Scale for TimeGrade {
 
 // The tenths, a space and the grade, or `barred`.
 impl fmt::Display for TimeGrade {
+    ghost use Rattle.std.specs.Prelude.{Some};
+    ghost use Rattle.scale.specs.TimeGrades.{time_grade_text};
+
     ghost output = { λ p. Some (time_grade_text p) };
 
     fn fmt<W: fmt::Write>(&self, f: &mut fmt::Formatter<W>) -> fmt::Result {
-        let tenths = self.tenths;
-        let level = self.level;
-        if tenths == u32::MAX {
+        if self.is_barred() {
             write!(f, "barred")
         } else {
-            write!(f, "{tenths} {level}")
+            write!(f, "{} {}", self.tenths, self.level)
         }
     }
 }

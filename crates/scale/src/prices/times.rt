@@ -1,13 +1,20 @@
 // The scale of time: a sum of times is compared with a limit.
-ghost use Rattle.std.specs.Prelude.{◌≡◌, Some};
-ghost use Rattle.scale.specs.Times.{time, time_ops, time_text};
-ghost use Rattle.scale.specs.TimesLemmas.{time_laws};
+ghost use Rattle.std.specs.Prelude.{◌≡◌, ◌≤◌};
+ghost use Rattle.scale.specs.Barred.{barred_tenths};
 
 use crate::Scale;
-use crate::prices::Time;
 use std::fmt;
 
+// A time in tenths of a second. The largest number is barred, and 0 is free.
+#[derive(Clone, Copy, PartialEq, Eq, PartialOrd, Ord, Debug)]
+pub struct Time {
+    tenths: u32,
+    ghost in_range: { tenths ≤ barred_tenths },
+}
+
 impl Time {
+    ghost use Rattle.scale.specs.Times.{time};
+
     // So many tenths of a second, and barred at the largest number.
     pub fn new(tenths: u32) -> Time
         ensures { result ≡ time tenths }
@@ -24,12 +31,15 @@ impl Time {
 }
 
 impl Scale for Time {
+    ghost use Rattle.scale.specs.Times.{time_ops};
+    ghost use Rattle.scale.specs.TimesLemmas.{time_laws};
+
     ghost ops = { time_ops };
 
     ghost lawful = { time_laws };
 
     fn at_most(self, other: Time) -> bool {
-        self.tenths <= other.tenths
+        self <= other
     }
 
     fn join(self, other: Time) -> Time {
@@ -51,14 +61,16 @@ impl Scale for Time {
 
 // The number of tenths, or `barred`.
 impl fmt::Display for Time {
+    ghost use Rattle.std.specs.Prelude.{Some};
+    ghost use Rattle.scale.specs.Times.{time_text};
+
     ghost output = { λ t. Some (time_text t) };
 
     fn fmt<W: fmt::Write>(&self, f: &mut fmt::Formatter<W>) -> fmt::Result {
-        let tenths = self.tenths;
-        if tenths == u32::MAX {
+        if self.is_barred() {
             write!(f, "barred")
         } else {
-            write!(f, "{tenths}")
+            write!(f, "{}", self.tenths)
         }
     }
 }
