@@ -1,5 +1,5 @@
-pub mod Spelling
 pub mod Ranging
+pub mod Spelling
 pub mod Putting
 pub mod Telling
 pub mod Returning

@@ -1,18 +1,12 @@
--- What the lines so far state keeps to a book's ranges, with the number of parts and with one rule more. Assumes nothing.
-use Rattle.std.proofs.Common.{◌≡◌, ℕ, ◌<◌, ◌≤◌, true, List, [], ◌∷◌, ◌++◌, length, Some, arith}
+-- What holds of each rule holds with one rule more, whether or not there was memory for it. Assumes nothing.
+use Rattle.std.proofs.Common.{◌≡◌, ℕ, ◌<◌, Bool, true, false, List, [], ◌∷◌, ◌++◌, length, get_or, if◌then◌else◌, sym, subst, arith}
 use Rattle.std.proofs.lemmas.List.Elements.{AllWithin-push}
-use Rattle.std.proofs.lemmas.List.{length_push}
 use Rattle.book.specs.declared.rules.Rule.{Rule}
-use Rattle.book.specs.Ranges.{InRange, lettered, Sound}
 
-pub sound_parts : (k : ℕ) (rules : List Rule) → 1 ≤ k → k ≤ 32 → length rules ≡ 0 → Sound (Some k) rules
-sound_parts k rules some few none = (some, few, omega arith, λ i d h. absurd (omega arith), λ i d h. absurd (omega arith))
+module _ (P : Rule → Type 0) (rules : List Rule) (u : Rule) (each : (i : ℕ) (d : Rule) → i < length rules → P (get_or rules i d)) (one : P u) where
+  grown : (b : Bool) (i : ℕ) (d : Rule) → i < length (if b then rules ++ u ∷ [] else rules) → P (get_or (if b then rules ++ u ∷ [] else rules) i d)
+  grown true i d h = AllWithin-push P rules u (λ j e z m. each j e m) one i d (omega arith) h
+  grown false i d h = each i d h
 
-pub sound_push : (k : ℕ) (rules : List Rule) (u : Rule) → Sound (Some k) rules → InRange k u → lettered u.side ≡ true → length rules < 128 → Sound (Some k) (rules ++ u ∷ [])
-sound_push k rules u s r l h = (
-  s.0,
-  s.1,
-  omega (arith, length_push rules u),
-  λ i d n. AllWithin-push (InRange k) rules u (λ j e z m. s.3 j e m) r i d (omega arith) n,
-  λ i d n. AllWithin-push (λ v. lettered v.side ≡ true) rules u (λ j e z m. s.4 j e m) l i d (omega arith) n,
-)
+  pub still_each : (b : Bool) (after : List Rule) → after ≡ (if b then rules ++ u ∷ [] else rules) → (i : ℕ) (d : Rule) → i < length after → P (get_or after i d)
+  still_each b after e = subst (λ l. (i : ℕ) (d : Rule) → i < length l → P (get_or l i d)) (sym e) (grown b)

@@ -1,8 +1,7 @@
 -- What is written reads back the same: the text of a book tells that book. Assumes nothing.
-use Rattle.std.proofs.Common.{◌≡◌, ℕ, List, [], ◌∷◌, ◌++◌, map, drop, Some, Ok, Err, vec_items, decimal, sym, refl, ap, ◌∙◌, subst, inl, inr, append_assoc, arith}
+use Rattle.std.proofs.Common.{◌≡◌, ℕ, List, [], ◌∷◌, ◌++◌, map, drop, Some, Ok, Err, vec_items, decimal, sym, refl, ap, ◌∙◌, subst, inl, append_assoc, arith}
 use Rattle.std.specs.List.{flat_map, AllByRecursion}
 use Rattle.refusal.specs.declared.Fault.{Fault}
-use Rattle.refusal.specs.declared.Refusal.{Refusal}
 use Rattle.text.specs.Fields.{fielded, Short, Lacks}
 use Rattle.text.specs.Lines.{Starts}
 use Rattle.text.specs.Reading.{Ending, stated, Ends}
@@ -67,6 +66,3 @@ module _ (b : Book) (text : List ℕ) (same : text ≡ book_text b) where
 
   pub again_none : (f : Fault) (before : List ℕ) → Told text (Err f) → ReadBack b before (Err f.refusal) before
   again_none f before told = (inl (sym (ap (λ (x : Fault). x.refusal) (told _ _ tells))), refl)
-
-pub too_short : (b : Book) (before : List ℕ) (r : Refusal) (after : List ℕ) → Wrote (book_text b) before (Err r) after → ReadBack b before (Err r) after
-too_short b before r after w = (inr (w.0, w.1), w.2)

@@ -1,24 +1,16 @@
 -- A line states one thing only: its letter tells the kind, and its fields tell the rest. Assumes nothing.
-use Rattle.std.proofs.Common.{◌≡◌, ℕ, List, [], ◌∷◌, length, get_or, decimal, sym, refl, ap, ◌∙◌, subst, inl, inr, arith}
-use Rattle.std.proofs.lemmas.Fmt.{decimal_injective}
+use Rattle.std.proofs.Common.{◌≡◌, ℕ, List, [], ◌∷◌, get_or, decimal, sym, refl, ap, ◌∙◌, subst, inl, inr, ⊎_elim, arith}
 use Rattle.text.specs.Fields.{fielded, Numbered, NumberField, StrokeField, Short, Stroke, Lacks}
-use Rattle.text.specs.Reading.{Known, Plain}
-use Rattle.text.proofs.Cutting.{decimal_lacks}
-use Rattle.text.proofs.Chaining.{fielded_unique, front_number, front_stroke}
+use Rattle.text.specs.declared.kinds.Kind.{Kind}
+use Rattle.text.specs.declared.kinds.Kind.TheVariants as kind
+use Rattle.text.specs.Kinds.{letter_of}
+use Rattle.text.specs.Reading.{OneOf, Known, Plain}
+use Rattle.text.proofs.Letters.{clash}
+use Rattle.text.proofs.Chaining.{fielded_unique, same_number, number_lacks, two_by_two, front_number, front_stroke}
 use Rattle.book.specs.declared.rules.RightSide.{RightSide}
 use Rattle.book.specs.declared.rules.RightSide.TheVariants.{Cut, Pair}
 use Rattle.book.specs.declared.rules.Rule.{Rule}
 use Rattle.book.specs.Statements.{Said, parts, rule, note, written_rule, line_text, ShortSide, States, book_form}
-
--- two lines with different letters
-clash : {A : Type 0} (a b : ℕ) {r s bs : List ℕ} → (a ≡ b → ⊥) → a ∷ r ≡ bs → b ∷ s ≡ bs → A
-clash a b n e f = absurd (n (cc))
-
-same_number : (m n : ℕ) → Short m → Short n → decimal m ≡ decimal n → m ≡ n
-same_number m n h k e = decimal_injective m n (omega arith) (omega arith) e
-
-lacks : (n : ℕ) → Short n → Lacks 32 (decimal n)
-lacks n h = decimal_lacks 32 n (omega arith) h
 
 stroke_lacks : (s : ℕ) → Stroke s → Lacks 32 (s ∷ [])
 stroke_lacks s h = (λ e. omega (arith, h.0), tt)
@@ -28,7 +20,7 @@ module _ (p t g q a b : ℕ) (hp : Short p) (ht : Short t) (hg : Short g) (hq : 
   rule_once : (s r : RightSide) → ShortSide s → ShortSide r → written_rule p s t g ≡ written_rule q r a b → ◌≡◌ {A = Rule} (record { part = p; side = s; time = t; grade = g }) (record { part = q; side = r; time = a; grade = b })
   rule_once (Cut s) (Cut r) h k e =
       let fields : fielded (decimal p ∷ (s ∷ []) ∷ decimal t ∷ decimal g ∷ []) ≡ fielded (decimal q ∷ (r ∷ []) ∷ decimal a ∷ decimal b ∷ []) = cc in
-      let same = fielded_unique _ _ (lacks p hp, (stroke_lacks s h, (lacks t ht, (lacks g hg, tt)))) (lacks q hq, (stroke_lacks r k, (lacks a ha, (lacks b hb, tt)))) fields in
+      let same = fielded_unique _ _ (number_lacks p hp, (stroke_lacks s h, (number_lacks t ht, (number_lacks g hg, tt)))) (number_lacks q hq, (stroke_lacks r k, (number_lacks a ha, (number_lacks b hb, tt)))) fields in
       let e₁ : decimal p ≡ decimal q = cc in
       let e₂ : s ≡ r = cc in
       let e₃ : decimal t ≡ decimal a = cc in
@@ -38,7 +30,7 @@ module _ (p t g q a b : ℕ) (hp : Short p) (ht : Short t) (hg : Short g) (hq : 
   rule_once (Pair l r) (Cut s) h k e = let z : ◌≡◌ {A = ℕ} 99 112 = cc in absurd (omega arith)
   rule_once (Pair l r) (Pair m s) h k e =
       let fields : fielded (decimal p ∷ decimal l ∷ decimal r ∷ decimal t ∷ decimal g ∷ []) ≡ fielded (decimal q ∷ decimal m ∷ decimal s ∷ decimal a ∷ decimal b ∷ []) = cc in
-      let same = fielded_unique _ _ (lacks p hp, (lacks l h.0, (lacks r h.1, (lacks t ht, (lacks g hg, tt))))) (lacks q hq, (lacks m k.0, (lacks s k.1, (lacks a ha, (lacks b hb, tt))))) fields in
+      let same = fielded_unique _ _ (number_lacks p hp, (number_lacks l h.0, (number_lacks r h.1, (number_lacks t ht, (number_lacks g hg, tt))))) (number_lacks q hq, (number_lacks m k.0, (number_lacks s k.1, (number_lacks a ha, (number_lacks b hb, tt))))) fields in
       let e₁ : decimal p ≡ decimal q = cc in
       let e₂ : decimal l ≡ decimal m = cc in
       let e₃ : decimal r ≡ decimal s = cc in
@@ -56,7 +48,7 @@ states_once line (parts k) (parts n) s t =
     let e = s.text in
     let f = t.text in
     let fields : fielded (decimal k ∷ []) ≡ fielded (decimal n ∷ []) = cc in
-    let same = fielded_unique _ _ (lacks k s.spelled, tt) (lacks n t.spelled, tt) fields in
+    let same = fielded_unique _ _ (number_lacks k s.spelled, tt) (number_lacks n t.spelled, tt) fields in
     let d : decimal k ≡ decimal n = cc in
     ap parts (same_number k n s.spelled t.spelled d)
 states_once line (parts k) (rule u) s t = rule_letter 107 u.part u.side u.time u.grade (omega arith) (omega arith) t.text s.text
@@ -82,6 +74,10 @@ said_known (note w) = inr (inr (inr (inl refl)))
 
 pub book_plain : Plain book_form
 book_plain = record { once = states_once; known = λ line said s. subst (Known book_form.letters) s.text (said_known said) }
+
+-- each letter of a book is a kind's
+pub book_letters : (b : ℕ) → OneOf book_form.letters b → (k : Kind) × (letter_of k ≡ b)
+book_letters b h = ⊎_elim (λ e. (kind.Parts, sym e)) (⊎_elim (λ e. (kind.Cut, sym e)) (⊎_elim (λ e. (kind.Pair, sym e)) (⊎_elim (λ e. (kind.Note, sym e)) (λ f. absurd f)))) h
 
 -- a line by its letter: what it can state
 pub no_parts : (rest : List ℕ) → ((ns : List ℕ) → Numbered 1 rest ns → ⊥) → (said : Said) → States (107 ∷ rest) said → ⊥
@@ -109,33 +105,6 @@ no_cut rest none (note w) s = clash 110 99 (omega arith) s.text refl
 
 pub two_numbers : {rest : List ℕ} (t g : ℕ) → Short t → Short g → fielded (decimal t ∷ decimal g ∷ []) ≡ rest → Numbered 2 rest (t ∷ g ∷ [])
 two_numbers t g ht hg e = record { count = refl; whole = e; short = (ht, (hg, tt)) }
-
--- numbers of a known count, one by one
-one_by_one : (ns : List ℕ) → length ns ≡ 1 → ns ≡ get_or ns 0 0 ∷ []
-one_by_one [] e = absurd (omega arith)
-one_by_one (a ∷ []) e = refl
-one_by_one (a ∷ b ∷ ns) e = absurd (omega arith)
-
-two_by_two : (ns : List ℕ) → length ns ≡ 2 → ns ≡ get_or ns 0 0 ∷ get_or ns 1 0 ∷ []
-two_by_two [] e = absurd (omega arith)
-two_by_two (a ∷ ns) e = ap (λ l. a ∷ l) (one_by_one ns (omega arith))
-
-five_by_five : (ns : List ℕ) → length ns ≡ 5 → ns ≡ get_or ns 0 0 ∷ get_or ns 1 0 ∷ get_or ns 2 0 ∷ get_or ns 3 0 ∷ get_or ns 4 0 ∷ []
-five_by_five [] e = absurd (omega arith)
-five_by_five (a ∷ []) e = absurd (omega arith)
-five_by_five (a ∷ b ∷ []) e = absurd (omega arith)
-five_by_five (a ∷ b ∷ c ∷ ns) e = ap (λ l. a ∷ b ∷ c ∷ l) (two_by_two ns (omega arith))
-
-pub is_parts : {rest ns : List ℕ} → Numbered 1 rest ns → States (107 ∷ rest) (parts (get_or ns 0 0))
-is_parts {rest} {ns} n =
-    let m : Numbered 1 rest (get_or ns 0 0 ∷ []) = subst (Numbered 1 rest) (one_by_one ns n.count) n in
-    record { text = ap (λ l. 107 ∷ l) m.whole; spelled = m.short.0 }
-
-pub is_pair : {rest ns : List ℕ} → Numbered 5 rest ns → States (112 ∷ rest) (rule (record { part = get_or ns 0 0; side = Pair (get_or ns 1 0) (get_or ns 2 0); time = get_or ns 3 0; grade = get_or ns 4 0 }))
-is_pair {rest} {ns} n =
-    let m = subst (Numbered 5 rest) (five_by_five ns n.count) n in
-    let h = m.short in
-    record { text = ap (λ l. 112 ∷ l) m.whole; spelled = (h.0, (h.1.0, h.1.1.0), h.1.1.1.0, h.1.1.1.1.0) }
 
 pub is_cut : {rest : List ℕ} {p : ℕ} {m₁ : List ℕ} {s : ℕ} {m₂ ns : List ℕ} → NumberField rest p m₁ → StrokeField m₁ s m₂ → Numbered 2 m₂ ns → States (99 ∷ rest) (rule (record { part = p; side = Cut s; time = get_or ns 0 0; grade = get_or ns 1 0 }))
 is_cut {rest} {p} {m₁} {s} {m₂} {ns} a b n =

@@ -1,5 +1,5 @@
 -- What the numbers and letters of a book may be. Assumes nothing.
-use Rattle.std.specs.Prelude.{◌≡◌, ℕ, ◌<◌, ◌≤◌, max, Bool, true, ◌&&◌, List, length, get_or, Option, Some, None, nat_le, slice_index_or}
+use Rattle.std.specs.Prelude.{◌≡◌, ℕ, ◌<◌, ◌≤◌, max, Bool, true, ◌&&◌, List, length, get_or, nat_le, slice_index_or}
 use Rattle.book.specs.declared.rules.RightSide.{RightSide}
 use Rattle.book.specs.declared.rules.RightSide.TheVariants.{Cut, Pair}
 use Rattle.book.specs.declared.rules.Rule.{Rule}
@@ -33,8 +33,3 @@ pub record Lawful (k : ℕ) (rules : List Rule) : Type 0 where
   pub few_rules : length rules ≤ 128
   pub ranged : AllInRange k rules
   pub lettered_strokes : AllLettered rules
-
--- of lines so far: without a number of parts there is no rule, and with it all is in range
-abbrev pub Sound : Option ℕ → List Rule → Type 0
-Sound None rules = length rules ≡ 0
-Sound (Some k) rules = (1 ≤ k) × (k ≤ 32) × (length rules ≤ 128) × AllInRange k rules × AllLettered rules

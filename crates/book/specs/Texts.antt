@@ -1,17 +1,16 @@
 -- What a text says of a book, and how its reading ends. Assumes nothing.
-use Rattle.std.specs.Prelude.{◌≡◌, ℕ, ◌≤◌, ◌⊎◌, List, [], ◌∷◌, map, length, Some, Ok, Err, vec_items, Result}
+use Rattle.std.specs.Prelude.{◌≡◌, ℕ, ◌≤◌, List, [], ◌∷◌, map, length, Some, Ok, Err, vec_items, Result}
 use Rattle.refusal.specs.declared.Refusal.{Refusal}
-use Rattle.refusal.specs.declared.Refusal.TheVariants.{OutOfMemory}
 use Rattle.refusal.specs.declared.Source.TheVariants as source
 use Rattle.refusal.specs.declared.Fault.{Fault}
-use Rattle.refusal.specs.Faults.{on_sheet, in_text}
+use Rattle.refusal.specs.Faults.{in_text}
 use Rattle.text.specs.Reading.{Listed, Ending}
 use Rattle.text.specs.Readings.{no_memory, ReadAs}
 use Rattle.text.specs.Readings as readings
 use Rattle.book.specs.declared.rules.Rule.{Rule}
 use Rattle.book.specs.declared.books.Book.{Book}
 use Rattle.book.specs.Ranges.{Lawful}
-use Rattle.book.specs.Statements.{Said, parts, rule, note, States, Stated, book_form}
+use Rattle.book.specs.Statements.{Said, parts, rule, note, Stated, book_form}
 
 -- the lines without the notes
 abbrev pub without_notes : List Said → List Said

@@ -1,6 +1,8 @@
 // What the lines of a book's text state together, while it is read.
-ghost use Rattle.std.specs.Prelude.{◌≡◌, true};
-ghost use Rattle.book.specs.Ranges.{lettered, Sound};
+ghost use Rattle.std.specs.Prelude.{◌≡◌, ◌≤◌, true, length, Some, None, MatchResult};
+ghost use Rattle.std.specs.Option.{ForSome};
+ghost use Rattle.refusal.specs.declared.Refusal.TheVariants.{PartsMisplaced};
+ghost use Rattle.book.specs.Ranges.{lettered, AllInRange, AllLettered};
 ghost use Rattle.book.specs.Statements.{Said, parts, rule as rule_said, RangedIn, Stated, book_form};
 ghost use Rattle.book.specs.Texts.{stated_in, IsRule};
 ghost use Rattle.book.specs.Lines.{said_by};
@@ -17,7 +19,11 @@ use text::Draft;
 pub(crate) struct BookDraft {
     parts: Option<u8>,
     rules: Vec<Rule>,
-    ghost sound: { Sound parts rules.items },
+    ghost no_rule_before: { parts ≡ None → length rules.items ≡ 0 },
+    ghost parts_in_range: { ForSome parts (λ k. (1 ≤ k) × (k ≤ 32)) },
+    ghost few_rules: { length rules.items ≤ 128 },
+    ghost ranged: { ForSome parts (λ k. AllInRange k rules.items) },
+    ghost lettered: { AllLettered rules.items },
 }
 
 impl BookDraft {
@@ -47,6 +53,13 @@ impl BookDraft {
         Ok(())
     }
 
+    // The number of parts, which has to stand before any rule.
+    fn known_parts(&self) -> Result<u8, Refusal>
+        ensures { MatchResult result (λ k. self.now.parts ≡ Some k) (λ r. (PartsMisplaced ≡ r) × (self.now.parts ≡ None)) }
+    {
+        self.parts.ok_or(Refusal::PartsMisplaced)
+    }
+
     // Takes a rule whose numbers are in range.
     fn push(&mut self, rule: Rule) -> Result<(), Refusal>
         requires ranged { RangedIn self.old.parts rule }
@@ -62,19 +75,13 @@ impl BookDraft {
 
     // Takes what one more line states.
     fn add(&mut self, line: Line) -> Result<(), Refusal>
-        ensures { Adds self.old (said_by line) result self.new }
+        ensures { Adds self.old (said_by line.entry) result self.new }
     {
         match line {
             Line::Note(_) => Ok(()),
             Line::Parts(k) => self.set_parts(k),
-            Line::Cut(fields) => {
-                let parts = self.parts.ok_or(Refusal::PartsMisplaced)?;
-                self.push(fields.rule(parts)?)
-            }
-            Line::Pair(fields) => {
-                let parts = self.parts.ok_or(Refusal::PartsMisplaced)?;
-                self.push(fields.rule(parts)?)
-            }
+            Line::Cut(fields) => self.push(fields.rule(self.known_parts()?)?),
+            Line::Pair(fields) => self.push(fields.rule(self.known_parts()?)?),
         }
     }
 }

@@ -68,11 +68,7 @@ pub fn read_back(heap: Global, book: &Book, out: &mut [u8]) -> Result<Book, Refu
     ensures { ReadBack book.now out.old result out.new }
 {
     let page = page_of(book);
-    match read(heap, page.text()) {
-        Err(fault) => Err(fault.refusal),
-        Ok(again) => match write(book, out) {
-            Ok(_) => Ok(again),
-            Err(refusal) => Err(refusal),
-        },
-    }
+    let again = read(heap, page.text())?;
+    write(book, out)?;
+    Ok(again)
 }

@@ -165,6 +165,15 @@ impl<T: Drop> From<AllocFailed<T>> for Refusal {
     }
 }
 
+// Where the line is not asked for, `?` answers the refusal of a fault.
+impl From<Fault> for Refusal {
+    ghost from_gives = { λ fault r. r ≡ fault.refusal };
+
+    fn from(fault: Fault) -> Refusal {
+        fault.refusal
+    }
+}
+
 impl Fault {
     // A refusal of a call on a sheet, a run or lent memory: no line is at fault.
     pub fn of_sheet(refusal: Refusal) -> Fault
