@@ -2,21 +2,14 @@
 // faulty line.
 #![tactic(auto)]
 
-use anyhow::anyhow;
-use report::{Report, order_report};
+use report::{order_report, printed};
 use std::io::{Read, Write};
 
 fn main(rt: HostRuntime) -> anyhow::Result<()> {
     let mut text = Vec::new(rt.alloc());
     rt.stdin().read_to_end(&mut text)?;
-    match order_report(rt.alloc(), &text)? {
-        Report::Accepted(out) => {
-            rt.stdout().write_all(&out)?;
-            Ok(())
-        }
-        Report::Refused(out) => {
-            rt.stdout().write_all(&out)?;
-            Err(anyhow!("the order is refused"))
-        }
-    }
+    let report = order_report(rt.alloc(), &text);
+    rt.stdout().write_all(printed(&report))?;
+    report?;
+    Ok(())
 }

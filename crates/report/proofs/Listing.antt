@@ -1,5 +1,5 @@
 -- The lines of a sheet on a page: one more stroke, one more place, and all of them fit. Assumes nothing.
-use Rattle.std.proofs.Common.{◌≡◌, ℕ, zero, suc, ◌+◌, ◌*◌, ◌≤◌, Bool, true, false, cond, [], ◌∷◌, ◌++◌, length, take, decimal, sym, ap, ◌∙◌, add-one, arith, length-append}
+use Rattle.std.proofs.Common.{◌≡◌, ℕ, zero, suc, ◌+◌, ◌-◌, ◌*◌, ◌≤◌, Bool, true, false, cond, [], ◌∷◌, ◌++◌, length, take, decimal, ap, ◌∙◌, arith, length-append}
 use Rattle.std.proofs.lemmas.List.{take_all}
 use Rattle.sheet.specs.Pairs.{Pairs}
 use Rattle.text.specs.declared.pages.Page.{Page}
@@ -8,11 +8,18 @@ use Rattle.text.proofs.Chaining.{decimal_short}
 use Rattle.report.specs.Sheets.{if_open, open_letters, place_line, sheet_text}
 
 module _ (f : Pairs) where
-  pub strokes_more : (p k : ℕ) → open_letters f p k ++ if_open f p (65 + k) ≡ open_letters f p (k + 1)
-  strokes_more p k = ap (open_letters f p) (sym (add-one k))
+  -- one stroke more, and one place more
+  strokes_more : (p k s : ℕ) → s ≡ 65 + k → open_letters f p k ++ if_open f p s ≡ open_letters f p (suc k)
+  strokes_more p k s e = ap (λ c. open_letters f p k ++ if_open f p c) e
 
-  pub places_more : (n : ℕ) → sheet_text f n ++ place_line f (n + 1) ≡ sheet_text f (n + 1)
-  places_more n = ap (λ m. sheet_text f n ++ place_line f m) (add-one n) ∙ ap (sheet_text f) (sym (add-one n))
+  pub next_stroke : (p s : ℕ) → 65 ≤ s → open_letters f p (s - 65) ++ if_open f p s ≡ open_letters f p (s + 1 - 65)
+  next_stroke p s h = let same : suc (s - 65) ≡ s + 1 - 65 = omega arith in strokes_more p (s - 65) s (omega arith) ∙ ap (open_letters f p) same
+
+  places_more : (k n : ℕ) → n ≡ suc k → sheet_text f k ++ place_line f n ≡ sheet_text f (suc k)
+  places_more k n e = ap (λ m. sheet_text f k ++ place_line f m) e
+
+  pub next_place : (n : ℕ) → 1 ≤ n → sheet_text f (n - 1) ++ place_line f n ≡ sheet_text f n
+  next_place n h = let same : suc (n - 1) ≡ n = omega arith in places_more (n - 1) n (omega arith) ∙ ap (sheet_text f) same
 
   one_at_most : (b : Bool) (c : ℕ) → length (cond b (c ∷ []) []) ≤ 1
   one_at_most true c = omega arith

@@ -1,5 +1,5 @@
 -- What the programs print. Assumes nothing.
-use Rattle.std.specs.Prelude.{◌≡◌, ℕ, ◌⊎◌, List, [], ◌∷◌, ◌++◌, length, Err, vec_items, codes, decimal}
+use Rattle.std.specs.Prelude.{◌≡◌, ℕ, ◌⊎◌, List, [], ◌∷◌, ◌++◌, length, Ok, Err, Vec, Result, vec_items, codes, decimal}
 use Rattle.refusal.specs.declared.Fault.{Fault}
 use Rattle.refusal.specs.Faults.{fault_line}
 use Rattle.text.specs.Lines.{FaultyLine}
@@ -15,8 +15,9 @@ use Rattle.order.specs.Statements.{order_form}
 use Rattle.order.specs.Texts as order
 use Rattle.order.specs.Texts.{drawn_pairs, in_order}
 use Rattle.report.specs.Sheets.{sheet_text}
-use Rattle.report.specs.declared.Report.{Report}
-use Rattle.report.specs.declared.Report.TheVariants.{Accepted, Refused}
+use Rattle.refusal.specs.declared.Source.TheVariants as source
+use Rattle.report.specs.declared.errors.ReportError.{ReportError}
+use Rattle.report.specs.declared.errors.ReportError.TheVariants.{Refused, OutOfMemory}
 
 -- bs is the refusal's line and then the faulty line of the two texts, if there is one
 abbrev pub FaultShown : List ℕ → List ℕ → Fault → List ℕ → Type 0
@@ -32,16 +33,24 @@ heading b = codes "parts " ++ (decimal b.parts ++ (codes "\nrules " ++ (decimal 
 abbrev pub book_summary : Book → List ℕ
 book_summary b = heading b ++ book_text b
 
--- the text tells a book, whose summary is printed; or it is refused, and that is printed
-abbrev pub BookReport : List ℕ → Report → Type 0
-BookReport text (Accepted v) = (b : Book) × Tells text b.parts (vec_items b.rules) × (vec_items v ≡ book_summary b)
-BookReport text (Refused v) = (f : Fault) × Outcome text (Err f) × FaultShown text [] f (vec_items v)
+-- the text tells a book, whose summary is printed; or it is refused, and that is printed; or there is no memory for a report
+abbrev pub BookReport : {Z : Type 0} → List ℕ → Result (Vec ℕ Z) ReportError → Type 0
+BookReport text (Ok v) = (b : Book) × Tells text b.parts (vec_items b.rules) × (vec_items v ≡ book_summary b)
+BookReport text (Err (Refused s v)) = (s ≡ source.Book) × ((f : Fault) × Outcome text (Err f) × FaultShown text [] f (vec_items v))
+BookReport text (Err OutOfMemory) = Unit {0}
 
 -- `limit` and what it is, and a line for each place
 abbrev pub order_summary : Limit → Pairs → ℕ → List ℕ
 order_summary l f n = (codes "limit " ++ (limit_name l ++ codes "\n")) ++ sheet_text f n
 
--- the text tells an order, whose summary is printed; or it is refused, and that is printed
-abbrev pub OrderReport : List ℕ → Report → Type 0
-OrderReport text (Accepted v) = (l : Limit) × (places : List (List ℕ)) × order.Tells text l places × (vec_items v ≡ order_summary l (drawn_pairs places) (length places))
-OrderReport text (Refused v) = (f : Fault) × ((r : Refusal) × (number : ℕ) × (f ≡ in_order r number) × Ends order_form text (refused r number)) × FaultShown [] text f (vec_items v)
+-- the text tells an order, whose summary is printed; or it is refused, and that is printed; or there is no memory for a report
+abbrev pub OrderReport : {Z : Type 0} → List ℕ → Result (Vec ℕ Z) ReportError → Type 0
+OrderReport text (Ok v) = (l : Limit) × (places : List (List ℕ)) × order.Tells text l places × (vec_items v ≡ order_summary l (drawn_pairs places) (length places))
+OrderReport text (Err (Refused s v)) = (s ≡ source.Order) × ((f : Fault) × ((r : Refusal) × (number : ℕ) × (f ≡ in_order r number) × Ends order_form text (refused r number)) × FaultShown [] text f (vec_items v))
+OrderReport text (Err OutOfMemory) = Unit {0}
+
+-- what is printed of a report, also of a refusal
+abbrev pub printed : {Z : Type 0} → Result (Vec ℕ Z) ReportError → List ℕ
+printed (Ok v) = vec_items v
+printed (Err (Refused s v)) = vec_items v
+printed (Err OutOfMemory) = []

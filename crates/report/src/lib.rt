@@ -5,22 +5,17 @@ ghost use Rattle.std.specs.Prelude.{◌≡◌, ℕ, List, IfOk};
 ghost use Rattle.report.specs.Reports.{FaultShown, book_summary, BookReport};
 
 use book::{Book, page_of, read};
-use refusal::Fault;
+use refusal::{Fault, Source};
 use std::alloc::{AllocError, Global};
 use text::faulty_line;
 
+mod errors;
 mod orders;
 mod sheets;
 
+pub use errors::{ReportError, printed};
 pub use orders::{order_report, order_summary};
 pub use sheets::put_sheet;
-
-// What a program prints, and whether the input was accepted.
-#[derive(Drop)]
-pub enum Report {
-    Accepted(Vec<u8>),
-    Refused(Vec<u8>),
-}
 
 // A refusal as it is printed: its number, layer and line, and below it the faulty line, if there is one.
 pub fn fault_report(
@@ -53,11 +48,14 @@ pub fn summary(heap: Global, book: &Book) -> Result<Vec<u8>, AllocError>
 }
 
 // What a book's text says: the summary of its book, or the refusal.
-pub fn book_report(heap: Global, text: &[u8]) -> Result<Report, AllocError>
-    ensures { IfOk result (λ v. BookReport text.now v) }
+pub fn book_report(heap: Global, text: &[u8]) -> Result<Vec<u8>, ReportError>
+    ensures { BookReport text.now result }
 {
     match read(heap, text) {
-        Ok(book) => Ok(Report::Accepted(summary(heap, &book)?)),
-        Err(fault) => Ok(Report::Refused(fault_report(heap, text, b"", fault)?)),
+        Ok(book) => Ok(summary(heap, &book)?),
+        Err(fault) => Err(ReportError::Refused {
+            of: Source::Book,
+            text: fault_report(heap, text, b"", fault)?,
+        }),
     }
 }

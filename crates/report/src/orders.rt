@@ -3,8 +3,9 @@ ghost use Rattle.std.specs.Prelude.{◌≡◌, IfOk};
 ghost use Rattle.report.specs.Reports.{order_summary, OrderReport};
 
 use crate::sheets::put_sheet;
-use crate::{Report, fault_report};
+use crate::{ReportError, fault_report};
 use order::{Limit, read};
+use refusal::Source;
 use sheet::{MaskSheet, Sheet};
 use std::alloc::{AllocError, Global};
 use text::Page;
@@ -21,15 +22,18 @@ pub fn order_summary<S: Sheet>(heap: Global, limit: Limit, sheet: &S) -> Result<
 }
 
 // What an order's text says: its summary, or the refusal.
-pub fn order_report(heap: Global, text: &[u8]) -> Result<Report, AllocError>
-    ensures { IfOk result (λ v. OrderReport text.now v) }
+pub fn order_report(heap: Global, text: &[u8]) -> Result<Vec<u8>, ReportError>
+    ensures { OrderReport text.now result }
 {
     let mut memory = [0u32; 16];
     match read(text, &mut memory) {
         Ok(order) => {
             let sheet = MaskSheet::new(&mut memory[0..order.places]);
-            Ok(Report::Accepted(order_summary(heap, order.limit, &sheet)?))
+            Ok(order_summary(heap, order.limit, &sheet)?)
         }
-        Err(fault) => Ok(Report::Refused(fault_report(heap, b"", text, fault)?)),
+        Err(fault) => Err(ReportError::Refused {
+            of: Source::Order,
+            text: fault_report(heap, b"", text, fault)?,
+        }),
     }
 }

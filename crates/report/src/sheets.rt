@@ -19,8 +19,8 @@ fn put_stroke<S: Sheet>(page: &mut Page, sheet: &S, place: usize, stroke: u8)
 fn put_strokes<S: Sheet>(page: &mut Page, sheet: &S, place: usize)
     ensures { Appended page.old (open_letters (S.shown sheet.now) place 26) page.new }
 {
-    for k in 0..26u8 {
-        put_stroke(page, sheet, place, b'A' + k);
+    for stroke in b'A'..=b'Z' {
+        put_stroke(page, sheet, place, stroke);
     }
 }
 
@@ -39,7 +39,7 @@ fn put_place<S: Sheet>(page: &mut Page, sheet: &S, place: usize)
 pub fn put_sheet<S: Sheet>(page: &mut Page, sheet: &S)
     ensures { Appended page.old (sheet_text (S.shown sheet.now) (S.places sheet.now)) page.new }
 {
-    for i in 0..sheet.length() {
-        put_place(page, sheet, i + 1);
+    for place in 1..=sheet.length() {
+        put_place(page, sheet, place);
     }
 }
