@@ -1,31 +1,24 @@
 // What is printed, byte for byte.
 use super::JIG;
 use refusal::{Fault, Refusal, Source};
-use report::{Report, book_report, fault_report};
+use report::{book_report, fault_report, printed};
 use std::alloc::Global;
 use std::process::Abort;
 use std::test::Fail;
 
 // The book is accepted, and just this is printed.
 fn accepted(rt: &impl Abort, heap: Global, text: &[u8], expected: &[u8]) -> Result<(), Fail> {
-    match book_report(heap, text)? {
-        Report::Accepted(out) => {
-            assert_eq!(rt; out.as_slice(), expected);
-            Ok(())
-        },
-        Report::Refused(_) => Err(Fail::new("the book is refused")),
-    }
+    let out = book_report(heap, text)?;
+    assert_eq!(rt; out.as_slice(), expected);
+    Ok(())
 }
 
 // The book is refused, and just this is printed.
 fn refused(rt: &impl Abort, heap: Global, text: &[u8], expected: &[u8]) -> Result<(), Fail> {
-    match book_report(heap, text)? {
-        Report::Accepted(_) => Err(Fail::new("the book is accepted")),
-        Report::Refused(out) => {
-            assert_eq!(rt; out.as_slice(), expected);
-            Ok(())
-        },
-    }
+    let report = book_report(heap, text);
+    assert!(rt; report.is_err(), "the book is accepted");
+    assert_eq!(rt; printed(&report), expected);
+    Ok(())
 }
 
 #[test]

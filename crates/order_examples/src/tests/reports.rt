@@ -1,29 +1,22 @@
 // What is printed of orders, byte for byte.
-use report::{Report, order_report};
+use report::{order_report, printed};
 use std::alloc::Global;
 use std::process::Abort;
 use std::test::Fail;
 
 // The order is accepted, and just this is printed.
 fn accepted(rt: &impl Abort, heap: Global, text: &[u8], expected: &[u8]) -> Result<(), Fail> {
-    match order_report(heap, text)? {
-        Report::Accepted(out) => {
-            assert_eq!(rt; out.as_slice(), expected);
-            Ok(())
-        },
-        Report::Refused(_) => Err(Fail::new("the order is refused")),
-    }
+    let out = order_report(heap, text)?;
+    assert_eq!(rt; out.as_slice(), expected);
+    Ok(())
 }
 
 // The order is refused, and just this is printed.
 fn refused(rt: &impl Abort, heap: Global, text: &[u8], expected: &[u8]) -> Result<(), Fail> {
-    match order_report(heap, text)? {
-        Report::Accepted(_) => Err(Fail::new("the order is accepted")),
-        Report::Refused(out) => {
-            assert_eq!(rt; out.as_slice(), expected);
-            Ok(())
-        },
-    }
+    let report = order_report(heap, text);
+    assert!(rt; report.is_err(), "the order is accepted");
+    assert_eq!(rt; printed(&report), expected);
+    Ok(())
 }
 
 #[test]
