@@ -1,4 +1,5 @@
 -- Proofs, and nothing that has to be believed: a card has the laws of a sheet.
+-- They stand here since the ghost member `laws` of an impl can name its own crate's specs/ and not its proofs/.
 use Rattle.std.specs.Prelude.{◌≡◌, ℕ, ◌/◌, min, Bool, true, false, ◌⊎◌, List, slice_index, refl}
 use Rattle.std.proofs.Common.{ap, ◌∙◌, ⊎_elim, arith}
 use Rattle.std.proofs.lemmas.Bool.{and_parts, eqb-true, false≢true}
