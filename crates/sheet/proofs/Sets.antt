@@ -1,5 +1,5 @@
 -- Ranges, and sets of pairs with one pair closed or opened: which pairs are in them, and when nothing changed.
-use Rattle.std.proofs.Common.{◌≡◌, ℕ, ◌≤◌, Bool, true, false, not, ◌&&◌, ◌⊎◌, sym, refl, ap, ◌∙◌, inl, arith}
+use Rattle.std.proofs.Common.{◌≡◌, ℕ, ◌≤◌, Bool, true, false, not, ◌&&◌, ◌⊎◌, sym, ap, ◌∙◌, inl, arith}
 use mathlib.Core.Path.{fun_ext}
 use Rattle.std.proofs.lemmas.Bool.Decides.{nat_tests}
 use Rattle.sheet.specs.Pairs.{Pairs, in_range, closed_at, opened_at, turned_at}
@@ -11,8 +11,7 @@ pub range_from : (n p c : ℕ) → 1 ≤ p → p ≤ n → 65 ≤ c → c ≤ 90
 range_from n p c h₁ h₂ h₃ h₄ = grind (arith, nat_tests)
 
 pub and_when : (b x y : Bool) → (b ≡ true → x ≡ y) → (b && x) ≡ (b && y)
-and_when true x y h = h refl
-and_when false x y h = refl
+and_when b x y h = grind arith
 
 -- what is left after a pair is closed was open
 pub closed_less : (f : Pairs) (p c q d : ℕ) → closed_at f p c q d ≡ true → f q d ≡ true
