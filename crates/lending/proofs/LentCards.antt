@@ -1,6 +1,7 @@
 -- What a card holds after code over any sheet: each byte is redrawn as its pair is open and was.
-use Rattle.std.proofs.Common.{◌≡◌, ℕ, Bool, true, false, cond, not, ◌&&◌, eqb, List, length, get_or, sym, refl, ap, ◌∙◌, ap₂, ⊎_elim}
+use Rattle.std.proofs.Common.{◌≡◌, ℕ, Bool, true, false, cond, not, ◌&&◌, eqb, List, length, get_or, sym, ap, ◌∙◌, ap₂, ⊎_elim, arith}
 use Rattle.std.proofs.lemmas.List.FromFn.{fill_by_all}
+use Rattle.std.proofs.lemmas.Bool.Decides.{nat_tests}
 use Rattle.std.proofs.lemmas.Bool.{and_parts, and_from, and_left, and_right, cases_Bool, cond-true, cond-false}
 use Rattle.sheet.specs.Pairs.{Pairs, in_range, is_place, is_stroke, closed_at, opened_at}
 use Rattle.sheet.specs.Cards.{card_places, card_shown, row, letter, written, CardRest}
@@ -14,10 +15,7 @@ use Rattle.lending.specs.Cards.{only_card, exchanged_card}
 use Rattle.lending.proofs.Closing.{only_less}
 
 newly_shut : (b was : Bool) → (was && not (cond b false was)) ≡ (b && was)
-newly_shut true true = refl
-newly_shut true false = refl
-newly_shut false true = refl
-newly_shut false false = refl
+newly_shut b was = grind (arith, nat_tests)
 
 pub card_only : (bs cs : List ℕ) (p c : ℕ) → CardRest bs cs → card_shown cs ≡ only_at (card_shown bs) p c → cs ≡ only_card bs p c
 card_only bs cs p c rest e =

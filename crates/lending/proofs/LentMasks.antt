@@ -62,10 +62,7 @@ only_bit m c j l = lower_bit m (only_low m c) j (low_small m c) l ∙ low_bit m 
 
 -- a test a for the range, e for the stroke and b for the bit
 only_test : (a e b : Bool) → (a && (e && b)) ≡ cond (not e) false (a && b)
-only_test true true b = refl
-only_test true false b = refl
-only_test false true b = refl
-only_test false false b = refl
+only_test a e b = grind (arith, nat_tests)
 
 -- at its place only the bit of c is left
 shown_only : (m c d : ℕ) (a : Bool) → (a ≡ true → (65 ≤ d) × (d ≤ 90)) → (a && bit (only_mask m c) (d - 65)) ≡ cond (not (eqb d c)) false (a && bit m (d - 65))

@@ -1,17 +1,12 @@
 -- A memory that is fixed by what it was and its open pairs is known after a strike.
-use Rattle.std.proofs.Common.{◌≡◌, ℕ, Bool, true, false, cond, is_ok, Ok, Err, Result, sym, refl, ap, ◌∙◌, MatchResult}
-use Rattle.std.proofs.lemmas.Bool.{true≢false}
+use Rattle.std.proofs.Common.{◌≡◌, ℕ, Bool, true, cond, is_ok, Ok, Err, Result, sym, ◌∙◌, MatchResult, arith}
 use Rattle.refusal.specs.declared.Refusal.{Refusal}
 use Rattle.refusal.specs.declared.Refusal.TheVariants.{NoSuchPlace, NotAStroke, NotOpen}
 use Rattle.sheet.specs.Pairs.{Pairs, is_place, is_stroke, closed_at}
 use Rattle.sheet.specs.Strikes.{struck}
 
 open_if_ok : (a b d : Bool) → ◌≡◌ {A = Result (Unit {0}) Refusal} (Ok tt) (cond a (cond b (cond d (Ok tt) (Err NotOpen)) (Err NotAStroke)) (Err NoSuchPlace)) → d ≡ true
-open_if_ok true true true h = refl
-open_if_ok true true false h = absurd (true≢false (ap is_ok h))
-open_if_ok true false d h = absurd (true≢false (ap is_ok h))
-open_if_ok false true d h = absurd (true≢false (ap is_ok h))
-open_if_ok false false d h = absurd (true≢false (ap is_ok h))
+open_if_ok a b d h = grind arith
 
 module _ {X : Type 0} (places : X → ℕ) (shown : X → Pairs) (kept : X → X → Type 0) (pins : (x y z : X) → kept x y → kept x z → shown y ≡ shown z → y ≡ z) where
   -- the memory with one pair closed, as the strike finds it

@@ -1,4 +1,5 @@
 -- Proofs, and nothing that has to be believed: a row has the laws of a sheet, with nothing to say of its memory.
+-- They stand here since the ghost member `laws` of an impl can name its own crate's specs/ and not its proofs/.
 use Rattle.std.specs.Prelude.{Bool, List, refl}
 use Rattle.std.proofs.Common.{arith}
 use Rattle.std.proofs.lemmas.Bool.{and_parts}

@@ -4,6 +4,7 @@
 mod cards;
 mod closings;
 mod exchanges;
+mod lent;
 mod masks;
 mod rows;
 

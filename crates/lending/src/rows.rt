@@ -1,9 +1,10 @@
 // A sheet of one place that has a row of its own and nothing to say of its memory: the four calls are all that is asked.
-ghost use Rattle.std.specs.Prelude.{◌≡◌, true, replicate};
+ghost use Rattle.std.specs.Prelude.{◌≡◌, ◌-◌, true, replicate};
+ghost use Rattle.sheet.specs.Pairs.{is_stroke};
 ghost use Rattle.lending.specs.Rows.{row_shown};
 ghost use Rattle.lending.specs.RowLaws.{row_laws};
 
-use sheet::Sheet;
+use sheet::{Sheet, in_range};
 
 // For each stroke whether it is open at the place 1.
 #[derive(Drop)]
@@ -34,24 +35,30 @@ impl Sheet for RowSheet {
     }
 
     fn look(&self, place: usize, stroke: u8) -> bool {
-        let in_range = place == 1 && b'A' <= stroke && stroke <= b'Z';
-        in_range && self.row[(stroke - b'A') as usize]
+        in_range(1, place, stroke) && self.row[index(stroke)]
     }
 
     fn close(&mut self, place: usize, stroke: u8) -> bool {
         let was_open = self.look(place, stroke);
         if was_open {
-            self.row[(stroke - b'A') as usize] = false;
+            self.row[index(stroke)] = false;
         }
         was_open
     }
 
     fn open(&mut self, place: usize, stroke: u8) -> bool {
-        let in_range = place == 1 && b'A' <= stroke && stroke <= b'Z';
-        let newly_open = in_range && !self.row[(stroke - b'A') as usize];
+        let newly_open = in_range(1, place, stroke) & !self.look(place, stroke);
         if newly_open {
-            self.row[(stroke - b'A') as usize] = true;
+            self.row[index(stroke)] = true;
         }
         newly_open
     }
+}
+
+// The index of the test of a stroke.
+fn index(stroke: u8) -> usize
+    requires { is_stroke stroke ≡ true }
+    ensures { result ≡ stroke - 65 }
+{
+    (stroke - b'A') as usize
 }

@@ -1,10 +1,10 @@
 -- Masks with the bit of one pair turned over: the pair is turned over, and nothing else changed.
-use Rattle.std.proofs.Common.{◌≡◌, ℕ, ◌-◌, ◌≤◌, true, false, cond, not, List, get_or, sym, refl, ap, ◌∙◌, ⊎_elim, arith}
+use Rattle.std.proofs.Common.{◌≡◌, ℕ, ◌-◌, ◌≤◌, true, cond, not, ◌&&◌, List, get_or, sym, refl, ap, ◌∙◌, ⊎_elim, arith}
 use Rattle.std.proofs.lemmas.Bool.{and_parts, and_right, cases_eq, eq-eqb, ne_eqb}
-use Rattle.sheet.specs.Pairs.{is_place, in_range, same_pair, closed_at, opened_at}
+use Rattle.sheet.specs.Pairs.{is_place, in_range, same_pair, closed_at, turned_at}
 use Rattle.sheet.specs.Masks.{mask_places, mask_shown, flipped, Rest}
 use Rattle.sheet.specs.MaskLaws.{mask_laws}
-use Rattle.sheet.proofs.Sets.{range_parts, and_when}
+use Rattle.sheet.proofs.Sets.{range_parts, and_when, turned_closed}
 use Rattle.sheet.proofs.Bits.{bit_flip_same, bit_flip_other, flip_above}
 use Rattle.sheet.proofs.Replacing.{replaced_rest, replaced_shown}
 
@@ -30,11 +30,12 @@ module _ (ms : List ℕ) (p c : ℕ) (ok : in_range (mask_places ms) p c ≡ tru
       (cases_eq d c))
       (λ q d n. rw (ne_eqb q p n))
 
+pub flip_turns : (ms : List ℕ) (p c : ℕ) → in_range (mask_places ms) p c ≡ true → Rest ms (flipped ms p c) × (mask_shown (flipped ms p c) ≡ turned_at (mask_places ms) (mask_shown ms) p c)
+flip_turns ms p c ok =
+    let turned = ap (λ b. b && not (mask_shown ms p c)) ok in
+    (flip_rest ms p c ok, flip_shown ms p c ok ∙ ap (λ b q d. cond (same_pair p c q d) b (mask_shown ms q d)) (sym turned))
+
 pub flip_closes : (ms : List ℕ) (p c : ℕ) → mask_shown ms p c ≡ true → Rest ms (flipped ms p c) × (mask_shown (flipped ms p c) ≡ closed_at (mask_shown ms) p c)
 flip_closes ms p c was =
-    let ok = mask_laws.within ms p c was in
-    (flip_rest ms p c ok, flip_shown ms p c ok ∙ ap (λ b q d. cond (same_pair p c q d) (not b) (mask_shown ms q d)) was)
-
-pub flip_opens : (ms : List ℕ) (p c : ℕ) → in_range (mask_places ms) p c ≡ true → mask_shown ms p c ≡ false → Rest ms (flipped ms p c) × (mask_shown (flipped ms p c) ≡ opened_at (mask_places ms) (mask_shown ms) p c)
-flip_opens ms p c ok was =
-    (flip_rest ms p c ok, flip_shown ms p c ok ∙ ap (λ b q d. cond (same_pair p c q d) b (mask_shown ms q d)) (ap not was ∙ sym ok))
+    let done = flip_turns ms p c (mask_laws.within ms p c was) in
+    (done.0, done.1 ∙ turned_closed (mask_places ms) (mask_shown ms) p c was)

@@ -1,5 +1,4 @@
 pub mod Sets
-pub mod Steps
 pub mod Bits
 pub mod Replacing
 pub mod Flips

@@ -1,6 +1,6 @@
 -- The memory of a sheet before and its open pairs after fix its memory after: for whoever lends masks or a card.
-use Rattle.std.proofs.Common.{◌≡◌, ℕ, ◌+◌, ◌-◌, ◌<◌, ◌≤◌, Bool, true, false, cond, not, ◌&&◌, List, length, get_or, sym, refl, ap, ◌∙◌, ⊎_elim, arith, ext_get_or}
-use Rattle.std.proofs.lemmas.Bool.{cases_lt, false≢true}
+use Rattle.std.proofs.Common.{◌≡◌, ℕ, ◌+◌, ◌-◌, ◌<◌, ◌≤◌, Bool, true, cond, not, ◌&&◌, List, length, get_or, sym, ap, ◌∙◌, ⊎_elim, arith, ext_get_or}
+use Rattle.std.proofs.lemmas.Bool.{cases_lt}
 use Rattle.sheet.specs.Pairs.{in_range}
 use Rattle.sheet.specs.Masks.{mask_places, mask_shown, Rest, bit}
 use Rattle.sheet.specs.Cards.{card_shown, row, letter, redrawn, CardRest}
@@ -9,8 +9,7 @@ use Rattle.sheet.proofs.Sets.{range_from}
 use Rattle.sheet.proofs.Bits.{bits_same}
 
 and_given : (a b d : Bool) → a ≡ true → (a && b) ≡ (a && d) → b ≡ d
-and_given true b d h e = e
-and_given false b d h e = absurd (false≢true h)
+and_given a b d h e = grind arith
 
 pub mask_pins : (ms ns os : List ℕ) → Rest ms ns → Rest ms os → mask_shown ns ≡ mask_shown os → ns ≡ os
 mask_pins ms ns os r q e =
@@ -31,10 +30,7 @@ card_pins bs cs ds r q e =
     r.bytes i ∙ ap (λ f. redrawn (f (row i) (letter i)) (card_shown bs (row i) (letter i)) (letter i) (get_or bs i 0)) e ∙ sym (q.bytes i))
 
 wiped : (is was : Bool) (c held : ℕ) → (is ≡ true → was ≡ true) → (was ≡ true → held ≡ c) → redrawn is was c held ≡ cond (was && not is) 46 held
-wiped true true c held less h = sym (h refl)
-wiped true false c held less h = absurd (false≢true (less refl))
-wiped false true c held less h = refl
-wiped false false c held less h = refl
+wiped is was c held less h = grind arith
 
 -- where pairs were only closed, a byte is a full stop if its pair was closed, and else what it was
 pub closed_bytes : (bs cs : List ℕ) → CardRest bs cs → ((q d : ℕ) → card_shown cs q d ≡ true → card_shown bs q d ≡ true) → (i : ℕ) → get_or cs i 0 ≡ cond (card_shown bs (row i) (letter i) && not (card_shown cs (row i) (letter i))) 46 (get_or bs i 0)

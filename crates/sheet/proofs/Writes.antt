@@ -1,12 +1,12 @@
 -- A card with one cell written: the pair is open if the byte is its letter, and nothing else changed.
-use Rattle.std.proofs.Common.{◌≡◌, ℕ, ◌<◌, ◌≤◌, true, cond, eqb, List, length, get_or, sym, refl, ap, ◌∙◌, ⊎_elim, arith}
+use Rattle.std.proofs.Common.{◌≡◌, ℕ, ◌<◌, ◌≤◌, true, false, cond, eqb, List, length, get_or, sym, refl, ap, ◌∙◌, ⊎_elim, arith}
 use mathlib.Core.Path.{fun_ext}
 use Rattle.std.proofs.lemmas.List.{length-set, get_or-set_same, get_or-set_other}
-use Rattle.std.proofs.lemmas.Bool.{cases_eq, eq-eqb, ne_eqb, and_right}
-use Rattle.sheet.specs.Pairs.{in_range, same_pair, closed_at, opened_at}
+use Rattle.std.proofs.lemmas.Bool.{cases_eq, cases_Bool, eq-eqb, ne_eqb, and_right}
+use Rattle.sheet.specs.Pairs.{in_range, same_pair, closed_at, opened_at, turned_at}
 use Rattle.sheet.specs.Cards.{card_places, card_shown, cell, row, letter, written, redrawn, CardRest}
 use Rattle.sheet.specs.CardLaws.{cell_index, byte_same, card_laws}
-use Rattle.sheet.proofs.Sets.{range_parts, and_when}
+use Rattle.sheet.proofs.Sets.{range_parts, and_when, turned_closed, turned_opened}
 
 module _ (bs : List ℕ) (p c v : ℕ) (ok : in_range (card_places bs) p c ≡ true) where
   at_pair : (1 ≤ p) × (p ≤ card_places bs) × (65 ≤ c) × (c ≤ 90)
@@ -64,3 +64,10 @@ pub letter_opens : (bs : List ℕ) (p c : ℕ) → in_range (card_places bs) p c
 letter_opens bs p c ok =
     let its_own = eq-eqb c c refl in
     (write_rest bs p c c ok (rw its_own), write_shown bs p c c ok ∙ ap (λ b q d. cond (same_pair p c q d) b (card_shown bs q d)) (its_own ∙ sym ok))
+
+pub write_turns : (bs : List ℕ) (p c : ℕ) → in_range (card_places bs) p c ≡ true → CardRest bs (written bs p c (cond (card_shown bs p c) 46 c)) × (card_shown (written bs p c (cond (card_shown bs p c) 46 c)) ≡ turned_at (card_places bs) (card_shown bs) p c)
+write_turns bs p c ok =
+    ⊎_elim
+    (λ (was : card_shown bs p c ≡ true). let done = stop_closes bs p c was in rw was (done.0, done.1 ∙ sym (turned_closed (card_places bs) (card_shown bs) p c was)))
+    (λ (was : card_shown bs p c ≡ false). let done = letter_opens bs p c ok in rw was (done.0, done.1 ∙ sym (turned_opened (card_places bs) (card_shown bs) p c was)))
+    (cases_Bool (card_shown bs p c))

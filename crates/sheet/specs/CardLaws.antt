@@ -1,7 +1,8 @@
 -- Proofs, and nothing that has to be believed: a card has the laws of a sheet.
-use Rattle.std.specs.Prelude.{◌≡◌, ℕ, ◌/◌, min, Bool, true, false, ◌⊎◌, List, slice_index, refl}
-use Rattle.std.proofs.Common.{ap, ◌∙◌, ⊎_elim, arith}
-use Rattle.std.proofs.lemmas.Bool.{and_parts, eqb-true, false≢true}
+-- They stand here since the ghost member `laws` of an impl can name its own crate's specs/ and not its proofs/.
+use Rattle.std.specs.Prelude.{◌≡◌, ℕ, ◌/◌, min, Bool, true, ◌⊎◌, List, slice_index, refl}
+use Rattle.std.proofs.Common.{ap, ◌∙◌, arith}
+use Rattle.std.proofs.lemmas.Bool.{and_parts, eqb-true}
 use Rattle.sheet.specs.Pairs.{in_range}
 use Rattle.sheet.specs.Laws.{Laws}
 use Rattle.sheet.specs.Cards.{card_places, card_shown, cell, row, letter, redrawn, CardRest}
@@ -15,8 +16,7 @@ pub open_byte : (bs : List ℕ) (i : ℕ) → card_shown bs (row i) (letter i) �
 open_byte bs i h = eqb-true (slice_index bs i) (letter i) (rw (cell_index i) at (and_parts (in_range (card_places bs) (row i) (letter i)) _ h).1)
 
 unmoved : (b : Bool) (x c : ℕ) → (b ≡ true → x ≡ c) → x ≡ redrawn b b c x
-unmoved true x c h = h refl
-unmoved false x c h = refl
+unmoved b x c h = grind arith
 
 -- a byte whose pair is as it was is not redrawn
 pub byte_same : (bs : List ℕ) (i : ℕ) → slice_index bs i ≡ redrawn (card_shown bs (row i) (letter i)) (card_shown bs (row i) (letter i)) (letter i) (slice_index bs i)
@@ -24,10 +24,7 @@ byte_same bs i = unmoved (card_shown bs (row i) (letter i)) (slice_index bs i) (
 
 -- a byte x redrawn to y and y to z
 twice : (a b d : Bool) (x y z c : ℕ) → y ≡ redrawn b a c x → z ≡ redrawn d b c y → (b ≡ true → (a ≡ true) ⊎ (d ≡ true)) → z ≡ redrawn d a c x
-twice a b true x y z c e f m = f
-twice a false false x y z c e f m = f ∙ e
-twice true true false x y z c e f m = f
-twice false true false x y z c e f m = absurd (⊎_elim false≢true false≢true (m refl))
+twice a b d x y z c e f m = grind arith
 
 pub card_laws : Laws card_places card_shown CardRest
 card_laws = record {

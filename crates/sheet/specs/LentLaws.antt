@@ -1,4 +1,5 @@
 -- Proofs, and nothing that has to be believed: a sheet on lent memory has the laws of that memory, which stays its lender's.
+-- They stand here since the ghost member `laws` of an impl can name its own crate's specs/ and not its proofs/.
 use Rattle.std.specs.Prelude.{◌≡◌, ℕ, refl}
 use Rattle.std.proofs.Common.{◌∙◌}
 use Rattle.sheet.specs.Pairs.{Pairs}

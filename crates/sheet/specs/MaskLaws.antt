@@ -1,4 +1,5 @@
 -- Proofs, and nothing that has to be believed: masks have the laws of a sheet.
+-- They stand here since the ghost member `laws` of an impl can name its own crate's specs/ and not its proofs/.
 use Rattle.std.proofs.Common.{ap, ◌∙◌, arith}
 use Rattle.std.specs.Prelude.{min, refl}
 use Rattle.std.proofs.lemmas.Bool.{and_parts}

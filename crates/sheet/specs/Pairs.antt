@@ -1,5 +1,5 @@
 -- Sets of pairs of a place and a stroke, as tests, and one pair closed or opened. Assumes nothing.
-use Rattle.std.specs.Prelude.{ℕ, Bool, false, cond, ◌&&◌, ◌==◌, nat_le}
+use Rattle.std.specs.Prelude.{ℕ, Bool, false, cond, not, ◌&&◌, ◌==◌, nat_le}
 
 -- a set of pairs: true at a place and a stroke's byte exactly where the pair is in it
 abbrev pub Pairs : Type 0
@@ -28,3 +28,7 @@ closed_at f p c q d = cond (same_pair p c q d) false (f q d)
 -- f with the pair, if that is in the range of n places
 abbrev pub opened_at : ℕ → Pairs → ℕ → ℕ → Pairs
 opened_at n f p c q d = cond (same_pair p c q d) (in_range n p c) (f q d)
+
+-- f with the pair turned over, if that is in the range of n places
+abbrev pub turned_at : ℕ → Pairs → ℕ → ℕ → Pairs
+turned_at n f p c q d = cond (same_pair p c q d) (in_range n p c && not (f p c)) (f q d)

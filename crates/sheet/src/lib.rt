@@ -1,4 +1,4 @@
-// What a sheet is: the open pairs of a place and a stroke. Sheets on masks, sheets on a card, and the strike.
+// What a sheet is: the open pairs of a place and a stroke. Sheets on memory that is lent, masks or a card, and the strike.
 #![tactic(auto)]
 
 ghost use Rattle.std.specs.Prelude.{◌≡◌, ℕ, not, ◌&&◌};
@@ -6,16 +6,23 @@ ghost use Rattle.sheet.specs.Laws.{Laws};
 ghost use Rattle.sheet.specs.Pairs.{Pairs, in_range, closed_at, opened_at};
 
 mod cards;
+mod cells;
+mod lent;
 mod masks;
 mod ranges;
 mod strikes;
 
 pub use cards::CardSheet;
+pub use cells::Cell;
+pub use lent::LentSheet;
 pub use masks::MaskSheet;
+pub use ranges::in_range;
 pub use strikes::strike;
 
 // A sheet: a length n of at most 24 that never changes, and a set of open pairs. A pair is a place from 1 to n and a
-// stroke from A to Z, given by its letter's byte. No call refuses, whatever place and byte it is given.
+// stroke from A to Z, given by its letter's byte. No call refuses, whatever place and byte it is given. The two stand
+// apart in each call: whoever calls has them apart, from a line `strike 1 S` or from two loops, and a clause on a struct
+// of the two would have to name both its fields.
 pub trait Sheet {
     // the length
     ghost places: { Self → ℕ };

@@ -3,7 +3,7 @@ ghost use Rattle.std.specs.Prelude.{◌≡◌};
 ghost use Rattle.sheet.specs.Pairs.{in_range};
 
 // Whether a sheet of that length has the place, and the byte is a stroke.
-pub(crate) fn in_range(length: usize, place: usize, stroke: u8) -> bool
+pub fn in_range(length: usize, place: usize, stroke: u8) -> bool
     ensures { result ≡ in_range length place stroke }
 {
     1 <= place && place <= length && b'A' <= stroke && stroke <= b'Z'

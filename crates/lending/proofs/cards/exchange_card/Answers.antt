@@ -1,7 +1,6 @@
 use Rattle.lending.proofs.LentCards.{card_exchanged}
 use Rattle.lending.proofs.cards.exchange_card.Goals as goal
 
-pub returns : goal.returns
-returns c =
-    let made = c.exchange_lent.ensures in
-    record { answer = made.answer; memory = card_exchanged _ _ c.args.place c.args.stroke c.args.other made.rest made.pairs }
+pub returns-clause-memory : goal.returns-clause-memory
+returns-clause-memory c =
+    card_exchanged _ _ c.args.place c.args.stroke c.args.other c.exchange_lent.ensures.rest c.exchange_lent.ensures.pairs

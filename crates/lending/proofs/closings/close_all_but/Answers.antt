@@ -1,6 +1,6 @@
-use Rattle.std.proofs.Common.{◌∙◌, arith}
+use Rattle.std.proofs.Common.{arith}
 use Rattle.sheet.proofs.Sets.{between_less}
-use Rattle.lending.proofs.Closing.{below_less, below_closed, below_passed, below_all}
+use Rattle.lending.proofs.Closing.{below_less, below_closed, below_passed}
 use Rattle.lending.proofs.closings.close_all_but.Goals as goal
 use Rattle.lending.proofs.closings.close_all_but.Goals.{then-letter-stroke, else-letter-stroke}
 
@@ -21,12 +21,3 @@ loop-letter-preserved g c =
           )
       | else-letter-stroke w ↦ rw w.sheet-is (below_passed (s.shown start) p d k w.if-letter-stroke.false inv.0, inv.1)
     ]
-
-pub returns : goal.returns
-returns g c =
-    let s = g.S.Sheet in
-    let start = c.args.sheet.now in
-    record {
-      pairs = c.loop-letter.invariant.0 ∙ below_all (s.shown start) c.args.place c.args.stroke c.loop-letter.letter (omega arith) (s.places start) (s.laws.within start);
-      memory = c.loop-letter.invariant.1;
-    }
