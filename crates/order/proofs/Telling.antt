@@ -13,7 +13,7 @@ use Rattle.order.specs.Letters.{Letters, mask_of}
 use Rattle.order.specs.Statements.{Said, limit, place, InRange, Stated, order_form}
 use Rattle.sheet.specs.Masks.{mask_shown}
 use Rattle.order.specs.Texts.{Tells, filled, drawn_pairs, in_order, too_short, stated_with, Outcome, Agrees, Drawn, Told}
-use Rattle.order.proofs.Spelling.{order_plain}
+use Rattle.order.specs.Plain.{order_plain}
 use Rattle.order.proofs.Pairing.{filled_shown}
 
 -- after the limit come the places

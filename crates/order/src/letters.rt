@@ -13,7 +13,7 @@ pub(crate) fn rising(letters: &[u8]) -> bool
         }
         lowest = *letter + 1;
     }
-    letters.len() > 0
+    !letters.is_empty()
 }
 
 // The number with a bit for each letter.
@@ -21,9 +21,9 @@ pub(crate) fn mask_of(letters: &[u8]) -> u32
     requires { Letters letters.now }
     ensures { result ≡ mask_of letters.now }
 {
-    let mut mask = 0u32;
+    let mut mask = 0;
     for letter in letters {
-        mask |= 1 << (*letter - b'A') as u32;
+        mask |= 1 << (*letter - b'A');
     }
     mask
 }

@@ -1,5 +1,6 @@
 use Rattle.std.proofs.Common.{arith}
-use Rattle.order.proofs.Lettering.{rises_at, rises_more, rises_all, some_letter}
+use Rattle.std.proofs.lemmas.Bool.Decides.{nat_tests}
+use Rattle.order.proofs.Lettering.{rises_at, rises_more, rises_all}
 use Rattle.order.proofs.letters.rising.Goals as goal
 
 pub returns-then-letter-lowest : goal.returns-then-letter-lowest
@@ -9,4 +10,4 @@ pub loop-letter-preserved : goal.loop-letter-preserved
 loop-letter-preserved c = rises_more c.args.letters.now c.loop-letter.letter-index c.loop-letter.lowest c.loop-letter-test.true c.loop-letter.invariant.0 c.loop-letter.invariant.1 (omega arith) (omega arith)
 
 pub returns : goal.returns
-returns c = some_letter c.args.letters.now (rises_all c.args.letters.now c.loop-letter.letter-index c.loop-letter-test.false c.loop-letter.invariant.0)
+returns c = let h = rises_all c.args.letters.now c.loop-letter.letter-index c.loop-letter-test.false c.loop-letter.invariant.0 in grind (arith, nat_tests)
