@@ -171,6 +171,7 @@ impl Draft for OrderDraft {
 
 // The order that a text states, with the open letters of its places in the memory of a sheet, one number a place; or the
 // first refusal in the order of the checks, with its line.
+#[tactic(auto, using(crate::proofs::Telling::accepted_drawn, crate::proofs::Smallness::accepted_small))]
 pub fn read(text: &[u8], memory: &mut [u32]) -> Result<Order, Fault>
     ensures outcome { Outcome text.now memory.old result memory.new }
     ensures only { (e : Ending Stated) → Ends order_form text.now e → Agrees e memory.old result memory.new }
