@@ -6,9 +6,10 @@ ghost use Rattle.order.specs.Letters.{Letters, mask_of};
 pub(crate) fn rising(letters: &[u8]) -> bool
     ensures { MatchBool result (Letters letters.now) (Letters letters.now → ⊥) }
 {
+    // A loop: `all` and `is_sorted_by` would each need a function of its own, with a contract, to be proved.
     let mut lowest = b'A';
     for letter in letters {
-        if *letter < lowest || *letter > b'Z' {
+        if *letter < lowest || !letter.is_ascii_uppercase() {
             return false;
         }
         lowest = *letter + 1;
@@ -21,6 +22,7 @@ pub(crate) fn mask_of(letters: &[u8]) -> u32
     requires { Letters letters.now }
     ensures { result ≡ mask_of letters.now }
 {
+    // A loop: the closure of a `fold` would not know that the letters are capital letters.
     let mut mask = 0;
     for letter in letters {
         mask |= 1 << (*letter - b'A');
