@@ -2,7 +2,7 @@
 use Rattle.std.proofs.Common.{◌≡◌, ℕ, zero, suc, ◌+◌, ◌-◌, ◌*◌, ◌%◌, ◌^◌, ◌<◌, ◌≤◌, List, [], ◌∷◌, ◌++◌, length, get_or, take, sym, refl, ap, ◌∙◌, subst, add_assoc, one-mul, arith, pow_mono}
 use lib.Bits.{bit_or, or_shifted_r}
 use Rattle.std.proofs.lemmas.Nat.{pow-add, one_shl}
-use Rattle.std.proofs.lemmas.List.{take_more, take_all}
+use Rattle.std.proofs.lemmas.List.{take_more}
 use Rattle.order.specs.Letters.{Rises, Letters, mask_of}
 
 -- the lowest letter that may follow
@@ -38,9 +38,6 @@ pub rises_more : (ls : List ℕ) (i low : ℕ) → i < length ls → Rises 65 (t
 rises_more ls i low h r e n t =
     let more = take_more ls i 0 h in
     (subst (Rises 65) (sym more) (rises_push 65 (take i ls) (get_or ls i 0) r (omega arith) t), sym (ap (next_of 65) more ∙ next_push 65 (take i ls) (get_or ls i 0)))
-
-pub rises_all : (ls : List ℕ) (i : ℕ) → length ls ≤ i → Rises 65 (take i ls) → Rises 65 ls
-rises_all ls i h r = subst (Rises 65) (take_all i ls h) r
 
 pub stroke_at : (ls : List ℕ) (i : ℕ) → i < length ls → Letters ls → (65 ≤ get_or ls i 0) × (get_or ls i 0 ≤ 90)
 stroke_at ls i h l =
@@ -90,6 +87,3 @@ mask_more ls i mask h l e =
     ∙ or_shifted_r 1 (c - 65) mask low
     ∙ omega (arith, e, one-mul (2 ^ (c - 65)), mask_push (take i ls) c)
     ∙ sym (ap mask_of (take_more ls i 0 h))
-
-pub mask_all : (ls : List ℕ) (i mask : ℕ) → length ls ≤ i → mask ≡ mask_of (take i ls) → mask ≡ mask_of ls
-mask_all ls i mask h e = e ∙ ap mask_of (take_all i ls h)

@@ -1,5 +1,5 @@
 -- What a line of an order can state, by its letter. Assumes nothing.
-use Rattle.std.proofs.Common.{◌≡◌, ℕ, List, [], ◌∷◌, ◌++◌, length, get_or, sym, refl, ap, ◌∙◌, subst, ⊎_elim, arith}
+use Rattle.std.proofs.Common.{◌≡◌, ℕ, List, [], ◌∷◌, ◌++◌, length, sym, refl, ap, ◌∙◌, subst, ⊎_elim, arith}
 use Rattle.std.proofs.lemmas.List.{nil_from_length}
 use Rattle.text.specs.declared.kinds.Kind.{Kind}
 use Rattle.text.specs.declared.kinds.Kind.TheVariants as kind
@@ -8,7 +8,6 @@ use Rattle.text.specs.Fields.{fielded, Field, Numbered}
 use Rattle.text.specs.Reading.{OneOf}
 use Rattle.text.proofs.Letters.{clash}
 use Rattle.text.proofs.Cutting.{field_unique}
-use Rattle.text.proofs.Chaining.{one_by_one, two_by_two}
 use Rattle.order.specs.declared.limits.Limit.TheVariants.{Time, Grade, Both}
 use Rattle.order.specs.Letters.{Letters}
 use Rattle.order.specs.Statements.{Said, limit, place, States, order_form}
@@ -36,21 +35,6 @@ no_both rest none (limit (Time t)) s = clash 116 98 (omega arith) s.text refl
 no_both rest none (limit (Grade g)) s = clash 103 98 (omega arith) s.text refl
 no_both rest none (limit (Both t g)) s = let e = s.text in none (t ∷ g ∷ []) (record { count = refl; whole = cc; short = (s.spelled.0, (s.spelled.1, tt)) })
 no_both rest none (place ls) s = clash 111 98 (omega arith) s.text refl
-
-pub is_time : {rest ns : List ℕ} → Numbered 1 rest ns → States (116 ∷ rest) (limit (Time (get_or ns 0 0)))
-is_time {rest} {ns} n =
-    let m : Numbered 1 rest (get_or ns 0 0 ∷ []) = subst (Numbered 1 rest) (one_by_one ns n.count) n in
-    record { text = ap (λ l. 116 ∷ l) m.whole; spelled = m.short.0 }
-
-pub is_grade : {rest ns : List ℕ} → Numbered 1 rest ns → States (103 ∷ rest) (limit (Grade (get_or ns 0 0)))
-is_grade {rest} {ns} n =
-    let m : Numbered 1 rest (get_or ns 0 0 ∷ []) = subst (Numbered 1 rest) (one_by_one ns n.count) n in
-    record { text = ap (λ l. 103 ∷ l) m.whole; spelled = m.short.0 }
-
-pub is_both : {rest ns : List ℕ} → Numbered 2 rest ns → States (98 ∷ rest) (limit (Both (get_or ns 0 0) (get_or ns 1 0)))
-is_both {rest} {ns} n =
-    let m : Numbered 2 rest (get_or ns 0 0 ∷ get_or ns 1 0 ∷ []) = subst (Numbered 2 rest) (two_by_two ns n.count) n in
-    record { text = ap (λ l. 98 ∷ l) m.whole; spelled = (m.short.0, m.short.1.0) }
 
 -- a place's line has one field, its letters
 place_field : {rest : List ℕ} (ls : List ℕ) → Letters ls → 111 ∷ fielded (ls ∷ []) ≡ 111 ∷ rest → Field rest ls []

@@ -1,6 +1,6 @@
 use Rattle.std.proofs.Common.{arith}
 use Rattle.std.proofs.lemmas.Bool.Decides.{nat_tests}
-use Rattle.order.proofs.Lettering.{rises_at, rises_more, rises_all, stroke_at}
+use Rattle.order.proofs.Lettering.{rises_at, rises_more, stroke_at}
 use Rattle.order.proofs.letters.rising.Goals as goal
 
 pub returns-then-letter-lowest : goal.returns-then-letter-lowest
@@ -11,6 +11,3 @@ returns-then-letter-lowest c = λ l.
 
 pub loop-letter-preserved : goal.loop-letter-preserved
 loop-letter-preserved c = rises_more c.args.letters.now c.loop-letter.letter-index c.loop-letter.lowest c.loop-letter-test.true c.loop-letter.invariant.0 c.loop-letter.invariant.1 (omega arith) (grind (arith, nat_tests))
-
-pub returns : goal.returns
-returns c = let h = rises_all c.args.letters.now c.loop-letter.letter-index c.loop-letter-test.false c.loop-letter.invariant.0 in grind (arith, nat_tests)
