@@ -6,7 +6,7 @@ ghost use Rattle.order.specs.Letters.{Letters, mask_of};
 pub(crate) fn rising(letters: &[u8]) -> bool
     ensures { MatchBool result (Letters letters.now) (Letters letters.now → ⊥) }
 {
-    // A loop: `all` and `is_sorted_by` would each need a function of its own, with a contract, to be proved.
+    // A loop: as `all` and `is_sorted_by` it would take two passes, and a function more for the proof.
     let mut lowest = b'A';
     for letter in letters {
         if *letter < lowest || !letter.is_ascii_uppercase() {

@@ -119,22 +119,21 @@ impl OrderDraft {
         requires { Spelled (said_by line) }
         ensures { Adds self.old (said_by line.entry) result self.new }
     {
-        match line {
+        let limit = match line {
             Line::Place(letters) => return self.add_place(letters),
             // A limit out of its place is refused before its grade is looked at.
             _ if self.limit.is_some() => return Err(Refusal::LimitMisplaced),
-            Line::Time(time) => self.limit = Some(Limit::Time(time)),
-            Line::Grade(number) => self.limit = Some(Limit::Grade(grade(number)?)),
+            Line::Time(time) => Limit::Time(time),
+            Line::Grade(number) => Limit::Grade(grade(number)?),
             Line::Both {
                 time,
                 grade: number,
-            } => {
-                self.limit = Some(Limit::Both {
-                    time,
-                    grade: grade(number)?,
-                })
-            }
-        }
+            } => Limit::Both {
+                time,
+                grade: grade(number)?,
+            },
+        };
+        self.limit = Some(limit);
         Ok(())
     }
 }
