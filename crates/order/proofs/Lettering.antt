@@ -1,10 +1,8 @@
 -- Letters that rise, read one by one: what may follow, and the number of the letters so far. Assumes nothing.
-use Rattle.std.proofs.Common.{◌≡◌, ℕ, zero, suc, ◌+◌, ◌-◌, ◌*◌, ◌%◌, ◌^◌, ◌<◌, ◌≤◌, ltb, List, [], ◌∷◌, ◌++◌, length, get_or, take, MatchBool, sym, refl, ap, ◌∙◌, subst, add_assoc, one-mul, arith, pow_mono}
+use Rattle.std.proofs.Common.{◌≡◌, ℕ, zero, suc, ◌+◌, ◌-◌, ◌*◌, ◌%◌, ◌^◌, ◌<◌, ◌≤◌, List, [], ◌∷◌, ◌++◌, length, get_or, take, sym, refl, ap, ◌∙◌, subst, add_assoc, one-mul, arith, pow_mono}
 use lib.Bits.{bit_or, or_shifted_r}
 use Rattle.std.proofs.lemmas.Nat.{pow-add, one_shl}
-use Rattle.std.proofs.lemmas.List.{take_more, take_all}
-use Rattle.std.proofs.lemmas.Bool.{lt-ltb}
-use Rattle.text.specs.Fields.{Lacks}
+use Rattle.std.proofs.lemmas.List.{take_more}
 use Rattle.order.specs.Letters.{Rises, Letters, mask_of}
 
 -- the lowest letter that may follow
@@ -41,18 +39,10 @@ rises_more ls i low h r e n t =
     let more = take_more ls i 0 h in
     (subst (Rises 65) (sym more) (rises_push 65 (take i ls) (get_or ls i 0) r (omega arith) t), sym (ap (next_of 65) more ∙ next_push 65 (take i ls) (get_or ls i 0)))
 
-pub rises_all : (ls : List ℕ) (i : ℕ) → length ls ≤ i → Rises 65 (take i ls) → Rises 65 ls
-rises_all ls i h r = subst (Rises 65) (take_all i ls h) r
-
 pub stroke_at : (ls : List ℕ) (i : ℕ) → i < length ls → Letters ls → (65 ≤ get_or ls i 0) × (get_or ls i 0 ≤ 90)
 stroke_at ls i h l =
     let a = rises_at 65 ls i h l.1 in
     (omega (arith, a.0, next_above 65 (take i ls) (rises_take 65 ls i l.1)), a.1)
-
--- letters lack what is below A
-pub rises_lack : (m low : ℕ) (ls : List ℕ) → m < low → Rises low ls → Lacks m ls
-rises_lack m low [] h r = tt
-rises_lack m low (c ∷ cs) h r = ((λ e. omega (arith, r.0)), rises_lack m (c + 1) cs (omega (arith, r.0)) r.2)
 
 -- the number of letters below one is below that one's bit
 mask_bound : (low : ℕ) (xs : List ℕ) → 65 ≤ low → Rises low xs → mask_of xs + 2 ^ (low - 65) ≤ 2 ^ (next_of low xs - 65)
@@ -97,11 +87,3 @@ mask_more ls i mask h l e =
     ∙ or_shifted_r 1 (c - 65) mask low
     ∙ omega (arith, e, one-mul (2 ^ (c - 65)), mask_push (take i ls) c)
     ∙ sym (ap mask_of (take_more ls i 0 h))
-
-pub mask_all : (ls : List ℕ) (i mask : ℕ) → length ls ≤ i → mask ≡ mask_of (take i ls) → mask ≡ mask_of ls
-mask_all ls i mask h e = e ∙ ap mask_of (take_all i ls h)
-
--- rising letters are letters if there is one
-pub some_letter : (ls : List ℕ) → Rises 65 ls → MatchBool (ltb 0 (length ls)) (Letters ls) (Letters ls → ⊥)
-some_letter [] r = λ l. omega (arith, l.0)
-some_letter (c ∷ cs) r = rw (lt-ltb 0 (length (c ∷ cs)) (omega arith)) (omega arith, r)

@@ -12,8 +12,8 @@ use Rattle.order.specs.declared.Order.{Order}
 use Rattle.order.specs.Letters.{Letters, mask_of}
 use Rattle.order.specs.Statements.{Said, limit, place, InRange, Stated, order_form}
 use Rattle.sheet.specs.Masks.{mask_shown}
-use Rattle.order.specs.Texts.{Tells, filled, drawn_pairs, in_order, too_short, stated_with, Outcome, Agrees, Drawn, Told}
-use Rattle.order.proofs.Spelling.{order_plain}
+use Rattle.order.specs.Texts.{Tells, filled, drawn_pairs, in_order, too_short, stated_with, Outcome, Drawn, Told}
+use Rattle.order.specs.Plain.{order_plain}
 use Rattle.order.proofs.Pairing.{filled_shown}
 
 -- after the limit come the places
@@ -70,7 +70,7 @@ places_told l done (letters ∷ todo) bs h n =
       subst (λ k. Reads order_form (map place todo) (stated_with l (done ++ mask_of letters ∷ [])) h.1 (stated_with l k) []) (append_assoc done (mask_of letters ∷ []) (map mask_of todo)) more,
     )
 
-pub tells_accepted : (text : List ℕ) (l : Limit) (places : List (List ℕ)) → Tells text l places → Accepted order_form text (stated_with l (map mask_of places))
+tells_accepted : (text : List ℕ) (l : Limit) (places : List (List ℕ)) → Tells text l places → Accepted order_form text (stated_with l (map mask_of places))
 tells_accepted text l places t =
     let h = t.listed in
     record {
@@ -87,7 +87,7 @@ listed_letters : (places : List (List ℕ)) (bs : List ℕ) → Listed order_for
 listed_letters [] bs h = tt
 listed_letters (letters ∷ places) bs h = (h.3.spelled, listed_letters places h.1 h.4)
 
-accepted_drawn : (text before : List ℕ) (o : Order) (masks after : List ℕ) → Accepted order_form text (stated_with o.limit masks) → o.places ≡ length masks → length masks ≤ length before → after ≡ filled masks before → Drawn text before o after
+pub accepted_drawn : (text before : List ℕ) (o : Order) (masks after : List ℕ) → Accepted order_form text (stated_with o.limit masks) → o.places ≡ length masks → length masks ≤ length before → after ≡ filled masks before → Drawn text before o after
 accepted_drawn text before o masks after a n fits e =
     let f = first_limit a.lines text o.limit masks a.reached.reads in
     let ls = f.places in
@@ -103,7 +103,6 @@ accepted_drawn text before o masks after a n fits e =
       pairs = subst (λ m. mask_shown (take o.places m) ≡ drawn_pairs ls) (sym memory) (filled_shown ls before o.places (listed_letters ls lines.1 lines.4) f.few (omega arith) (n ∙ size));
     }
 
--- an outcome leaves no other
 abbrev Failed : List ℕ → Fault → Type 0
 Failed text f = (r : Refusal) × (number : ℕ) × (f ≡ in_order r number) × Ends order_form text (refused r number)
 
@@ -113,14 +112,9 @@ Short text before f = (f ≡ too_short) × ((sum : Stated) × Ends order_form te
 one : (text : List ℕ) (x y : Ending Stated) → Ends order_form text x → Ends order_form text y → x ≡ y
 one = one_ending order_form order_plain
 
-pub only_ending : (text before : List ℕ) (r : Result Order Fault) (after : List ℕ) → Outcome text before r after → (e : Ending Stated) → Ends order_form text e → Agrees e before r after
-only_ending text before (Ok o) after x (stated sum) h =
-    let e = one text (stated sum) (stated (stated_with o.limit x.0)) h x.1 in
-    let same : sum ≡ stated_with o.limit x.0 = cc in
-    let masks = sym (ap (λ (d : Stated). d.places) same) in
-    (same ∙ ap (stated_with o.limit) masks, x.2 ∙ ap length masks, x.4 ∙ ap (λ m. filled m before) masks)
-only_ending text before (Ok o) after x (refused r n) h = apart (stated_with o.limit x.0) r n (one text (stated (stated_with o.limit x.0)) (refused r n) x.1 h)
-only_ending text before (Err f) after x (stated sum) h =
+-- an accepted text is refused only where the memory is too short for its places
+accepted_short : (text before : List ℕ) (f : Fault) (after : List ℕ) → Outcome text before (Err f) after → (sum : Stated) → Accepted order_form text sum → (f ≡ too_short) × (length before < length sum.places)
+accepted_short text before f after x sum h =
     ⊎_elim
     (λ (y : Failed text f). absurd (apart sum y.0 y.1 (one text (stated sum) (refused y.0 y.1) h y.3)))
     (λ (y : Short text before f).
@@ -128,18 +122,9 @@ only_ending text before (Err f) after x (stated sum) h =
     let same : y.1.0 ≡ sum = cc in
     (y.0, subst (λ (d : Stated). length before < length d.places) same y.1.2))
     x.0
-only_ending text before (Err f) after x (refused r n) h =
-    ⊎_elim
-    (λ (y : Failed text f).
-    let e = one text (refused y.0 y.1) (refused r n) y.3 h in
-    let e₁ : y.0 ≡ r = cc in
-    let e₂ : y.1 ≡ n = cc in
-    y.2 ∙ (λ i. in_order (e₁ i) (e₂ i)))
-    (λ (y : Short text before f). absurd (apart y.1.0 r n (one text (stated y.1.0) (refused r n) y.1.1 h)))
-    x.0
 
 pub told_by : (text before : List ℕ) (r : Result Order Fault) (after : List ℕ) → Outcome text before r after → Told text before r after
 told_by text before (Ok o) after x = accepted_drawn text before o x.0 after x.1 x.2 x.3 x.4
 told_by text before (Err f) after x = λ l places t.
-    let a = only_ending text before (Err f) after x (stated (stated_with l (map mask_of places))) (tells_accepted text l places t) in
+    let a = accepted_short text before f after x (stated_with l (map mask_of places)) (tells_accepted text l places t) in
     (a.0, subst (λ n. length before < n) (length-map places mask_of) a.1)

@@ -1,6 +1,6 @@
 pub mod Letters
 pub mod Limits
 pub mod Statements
-pub mod Places
 pub mod Texts
 pub mod Steps
+pub mod Plain

@@ -6,14 +6,15 @@ ghost use Rattle.order.specs.Letters.{Letters, mask_of};
 pub(crate) fn rising(letters: &[u8]) -> bool
     ensures { MatchBool result (Letters letters.now) (Letters letters.now → ⊥) }
 {
+    // A loop: as `all` and `is_sorted_by` it would take two passes, and a function more for the proof.
     let mut lowest = b'A';
     for letter in letters {
-        if *letter < lowest || *letter > b'Z' {
+        if *letter < lowest || !letter.is_ascii_uppercase() {
             return false;
         }
         lowest = *letter + 1;
     }
-    letters.len() > 0
+    !letters.is_empty()
 }
 
 // The number with a bit for each letter.
@@ -21,9 +22,10 @@ pub(crate) fn mask_of(letters: &[u8]) -> u32
     requires { Letters letters.now }
     ensures { result ≡ mask_of letters.now }
 {
-    let mut mask = 0u32;
+    // A loop: the closure of a `fold` would not know that the letters are capital letters.
+    let mut mask = 0;
     for letter in letters {
-        mask |= 1 << (*letter - b'A') as u32;
+        mask |= 1 << (*letter - b'A');
     }
     mask
 }

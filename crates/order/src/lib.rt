@@ -4,7 +4,6 @@
 mod filling;
 mod letters;
 mod limits;
-mod places;
 mod reading;
 
 pub use limits::Limit;

@@ -1,74 +1,73 @@
 // An order's text, read line by line.
-ghost use Rattle.std.specs.Prelude.{◌≡◌, ◌<◌, ◌≤◌, ◌∷◌, length, MatchOption};
-ghost use Rattle.text.specs.Reading.{LineRead, Ending, Ends};
+ghost use Rattle.std.specs.Prelude.{◌≡◌};
+ghost use Rattle.text.specs.Reading.{RestRead, LineRead, Ending, Ends};
 ghost use Rattle.order.specs.Letters.{Letters};
-ghost use Rattle.order.specs.Statements.{Said, limit, place, Spelled, Stated, States, order_form};
-ghost use Rattle.order.specs.Texts.{Outcome, Agrees, Told, in_order};
-ghost use Rattle.order.specs.Steps.{said_by, limit_of, LimitIn, Adds, Takes, LinesRead};
+ghost use Rattle.order.specs.Statements.{Said, place, Spelled, Stated, order_form};
+ghost use Rattle.order.specs.Texts.{Outcome, Agrees, Told};
+ghost use Rattle.order.specs.Steps.{said_by, stated_by, whole_stated, Adds};
+ghost use Rattle.order.specs.Plain.{order_plain};
 
 use crate::Order;
 use crate::filling::fill;
 use crate::letters::{mask_of, rising};
 use crate::limits::Limit;
-use crate::places::Places;
+use arrayvec::ArrayVec;
 use refusal::{Fault, Refusal, Source};
-use text::{Kind, field, first_line, line_kind, numbers};
+use text::{Draft, Kind, field, grade, line_kind, numbers};
 
-// The numbers of a limit's line, as they stand.
+// What a line states: a limit by its numbers, or a place by its letters, a part of the text.
 #[derive(Clone, Copy)]
-enum LimitFields {
+enum Line<'a> {
     Time(u32),
     Grade(u32),
     Both { time: u32, grade: u32 },
-}
-
-// What a line states. A place has its letters as a part of the text.
-#[derive(Clone, Copy)]
-enum Line<'a> {
-    Limit(LimitFields),
     Place(&'a [u8]),
 }
 
-// What the lines so far state.
-#[derive(Clone, Copy)]
-struct Draft {
+// What the lines so far state: the limit, and a number for each place with a bit for each open letter.
+#[derive(Drop)]
+struct OrderDraft {
     limit: Option<Limit>,
-    places: Places,
+    masks: ArrayVec<u32, 16>,
+}
+
+// What a whole text states.
+#[derive(Drop)]
+struct WholeOrder {
+    limit: Limit,
+    masks: ArrayVec<u32, 16>,
 }
 
 // What a line states whose letter is `t`.
 fn time_line(rest: &[u8]) -> Option<Line>
-    ensures { MatchOption result ((said : Said) → States (116 ∷ rest.now) said → ⊥) (λ l. States (116 ∷ rest.now) (said_by l)) }
+    ensures { RestRead order_form said_by 116 rest.now result }
 {
     let [time] = numbers::<1>(rest)?;
-    Some(Line::Limit(LimitFields::Time(time)))
+    Some(Line::Time(time))
 }
 
 // What a line states whose letter is `g`.
 fn grade_line(rest: &[u8]) -> Option<Line>
-    ensures { MatchOption result ((said : Said) → States (103 ∷ rest.now) said → ⊥) (λ l. States (103 ∷ rest.now) (said_by l)) }
+    ensures { RestRead order_form said_by 103 rest.now result }
 {
     let [grade] = numbers::<1>(rest)?;
-    Some(Line::Limit(LimitFields::Grade(grade)))
+    Some(Line::Grade(grade))
 }
 
 // What a line states whose letter is `b`.
 fn both_line(rest: &[u8]) -> Option<Line>
-    ensures { MatchOption result ((said : Said) → States (98 ∷ rest.now) said → ⊥) (λ l. States (98 ∷ rest.now) (said_by l)) }
+    ensures { RestRead order_form said_by 98 rest.now result }
 {
     let [time, grade] = numbers::<2>(rest)?;
-    Some(Line::Limit(LimitFields::Both { time, grade }))
+    Some(Line::Both { time, grade })
 }
 
 // What a line states whose letter is `o`: its one field is the open letters.
 fn place_line(rest: &[u8]) -> Option<Line>
-    ensures { MatchOption result ((said : Said) → States (111 ∷ rest.now) said → ⊥) (λ l. States (111 ∷ rest.now) (said_by l)) }
+    ensures { RestRead order_form said_by 111 rest.now result }
 {
     let (letters, more) = field(rest)?;
-    if more.len() != 0 {
-        return None;
-    }
-    if !rising(letters) {
+    if !more.is_empty() || !rising(letters) {
         return None;
     }
     Some(Line::Place(letters))
@@ -78,9 +77,7 @@ fn place_line(rest: &[u8]) -> Option<Line>
 fn read_line(line: &[u8]) -> Result<Line, Refusal>
     ensures { LineRead order_form said_by line.now result }
 {
-    let Some((kind, rest)) = line_kind(line) else {
-        return Err(Refusal::UnknownLine);
-    };
+    let (kind, rest) = line_kind(line).ok_or(Refusal::UnknownLine)?;
     let stated = match kind {
         Kind::TimeLimit => time_line(rest),
         Kind::GradeLimit => grade_line(rest),
@@ -91,45 +88,15 @@ fn read_line(line: &[u8]) -> Result<Line, Refusal>
     stated.ok_or(Refusal::MalformedField)
 }
 
-impl LimitFields {
-    // The limit, if its grade is in range.
-    fn in_range(self) -> Option<Limit>
-        ensures { LimitIn (limit_of self) result }
+impl OrderDraft {
+    // No line yet.
+    fn new() -> OrderDraft
+        ensures { stated_by result ≡ order_form.blank }
     {
-        match self {
-            LimitFields::Time(time) => Some(Limit::Time(time)),
-            LimitFields::Grade(grade) => {
-                if grade > 254 {
-                    return None;
-                }
-                Some(Limit::Grade(grade as u8))
-            }
-            LimitFields::Both { time, grade } => {
-                if grade > 254 {
-                    return None;
-                }
-                Some(Limit::Both {
-                    time,
-                    grade: grade as u8,
-                })
-            }
+        OrderDraft {
+            limit: None,
+            masks: ArrayVec::new(),
         }
-    }
-}
-
-impl Draft {
-    // Takes the limit.
-    fn set_limit(&mut self, fields: LimitFields) -> Result<(), Refusal>
-        ensures { Adds self.old (limit (limit_of fields)) result self.new }
-    {
-        if self.limit.is_some() {
-            return Err(Refusal::LimitMisplaced);
-        }
-        let Some(limit) = fields.in_range() else {
-            return Err(Refusal::OutOfRange);
-        };
-        self.limit = Some(limit);
-        Ok(())
     }
 
     // Takes the open letters of one more place.
@@ -140,10 +107,10 @@ impl Draft {
         if self.limit.is_none() {
             return Err(Refusal::LimitMisplaced);
         }
-        if self.places.count() >= 16 {
+        if self.masks.is_full() {
             return Err(Refusal::TooManyPlaces);
         }
-        self.places.push(mask_of(letters));
+        self.masks.push(mask_of(letters));
         Ok(())
     }
 
@@ -152,82 +119,70 @@ impl Draft {
         requires { Spelled (said_by line) }
         ensures { Adds self.old (said_by line.entry) result self.new }
     {
-        match line {
-            Line::Limit(fields) => self.set_limit(fields),
-            Line::Place(letters) => self.add_place(letters),
-        }
-    }
-
-    // Takes the first line of `rest`, and gives what follows it.
-    fn take_line<'a>(&mut self, rest: &'a [u8]) -> Result<&'a [u8], Refusal>
-        requires { 0 < length rest.now }
-        ensures { Takes self.old rest.now result self.new }
-    {
-        let Some((line, after)) = first_line(rest) else {
-            return Err(Refusal::UnknownLine);
-        };
-        match read_line(line) {
-            Err(refusal) => Err(refusal),
-            Ok(stated) => match self.add(stated) {
-                Ok(()) => Ok(after),
-                Err(refusal) => Err(refusal),
+        let limit = match line {
+            Line::Place(letters) => return self.add_place(letters),
+            // A limit out of its place is refused before its grade is looked at.
+            _ if self.limit.is_some() => return Err(Refusal::LimitMisplaced),
+            Line::Time(time) => Limit::Time(time),
+            Line::Grade(number) => Limit::Grade(grade(number)?),
+            Line::Both {
+                time,
+                grade: number,
+            } => Limit::Both {
+                time,
+                grade: grade(number)?,
             },
-        }
+        };
+        self.limit = Some(limit);
+        Ok(())
     }
 }
 
-// The fault of an order's text at a line.
-fn in_order(refusal: Refusal, line: usize) -> Fault
-    ensures { result ≡ in_order refusal line }
-{
-    Fault {
-        refusal,
-        source: Source::Order,
-        line,
-    }
-}
+impl Draft for OrderDraft {
+    type Whole = WholeOrder;
 
-// The limit and the places that the lines of a text state.
-fn read_lines(text: &[u8]) -> Result<(Limit, Places), Fault>
-    requires { length text.now ≤ 8192 }
-    ensures { LinesRead text.now result }
-{
-    let mut draft = Draft {
-        limit: None,
-        places: Places::new(),
-    };
-    let mut rest = text;
-    let mut number: usize = 1;
-    while rest.len() > 0 {
-        match draft.take_line(rest) {
-            Ok(after) => rest = after,
-            Err(refusal) => return Err(in_order(refusal, number)),
-        }
-        number += 1;
+    ghost Said = { Said };
+
+    ghost Sum = { Stated };
+
+    ghost form = { order_form };
+
+    ghost stated = { stated_by };
+
+    ghost whole = { whole_stated };
+
+    ghost wants_memory = { λ _. ⊥ };
+
+    fn take(&mut self, line: &[u8]) -> Result<(), Refusal> {
+        self.add(read_line(line)?)
     }
-    match draft.limit {
-        Some(limit) => Ok((limit, draft.places)),
-        None => Err(in_order(Refusal::LimitMisplaced, number)),
+
+    fn finish(self) -> Result<WholeOrder, Refusal> {
+        let limit = self.limit.ok_or(Refusal::LimitMisplaced)?;
+        Ok(WholeOrder {
+            limit,
+            masks: self.masks,
+        })
     }
+
+    ghost plain = { order_plain };
 }
 
 // The order that a text states, with the open letters of its places in the memory of a sheet, one number a place; or the
 // first refusal in the order of the checks, with its line.
+#[tactic(auto, using(crate::proofs::Telling::accepted_drawn, crate::proofs::Smallness::accepted_small))]
 pub fn read(text: &[u8], memory: &mut [u32]) -> Result<Order, Fault>
     ensures outcome { Outcome text.now memory.old result memory.new }
     ensures only { (e : Ending Stated) → Ends order_form text.now e → Agrees e memory.old result memory.new }
     ensures told { Told text.now memory.old result memory.new }
 {
-    if text.len() > 8192 {
-        return Err(in_order(Refusal::TextTooLong, 0));
-    }
-    let (limit, places) = read_lines(text)?;
-    if places.count() > memory.len() {
+    let WholeOrder { limit, masks } = text::read(OrderDraft::new(), Source::Order, text)?;
+    if masks.len() > memory.len() {
         return Err(Fault::of_sheet(Refusal::LentTooShort));
     }
-    fill(memory, places.masks());
+    fill(memory, masks.as_slice());
     Ok(Order {
         limit,
-        places: places.count(),
+        places: masks.len(),
     })
 }

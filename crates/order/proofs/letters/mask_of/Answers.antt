@@ -1,5 +1,5 @@
 use Rattle.std.proofs.Common.{arith}
-use Rattle.order.proofs.Lettering.{stroke_at, mask_more, mask_all}
+use Rattle.order.proofs.Lettering.{stroke_at, mask_more}
 use Rattle.order.proofs.letters.mask_of.Goals as goal
 
 pub overflow_sub-mask : goal.overflow_sub-mask
@@ -10,6 +10,3 @@ overflow_shl-mask c = omega (arith, (stroke_at c.args.letters.now c.loop-letter.
 
 pub loop-letter-preserved : goal.loop-letter-preserved
 loop-letter-preserved c = mask_more c.args.letters.now c.loop-letter.letter-index c.loop-letter.mask c.loop-letter-test.true c.requires c.loop-letter.invariant
-
-pub returns : goal.returns
-returns c = mask_all c.args.letters.now c.loop-letter.letter-index c.loop-letter.mask c.loop-letter-test.false c.loop-letter.invariant

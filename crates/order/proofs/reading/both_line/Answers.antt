@@ -1,8 +1,5 @@
-use Rattle.order.proofs.Spelling.{no_both, is_both}
+use Rattle.order.proofs.Spelling.{no_both}
 use Rattle.order.proofs.reading.both_line.Goals as goal
 
 pub returns-in_err-time : goal.returns-in_err-time
 returns-in_err-time c = rw c.from_residual.ensures (no_both _ c.in_err-time.ensures)
-
-pub returns : goal.returns
-returns c = is_both c.in_ok-time.ensures
