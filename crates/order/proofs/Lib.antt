@@ -1,3 +1,4 @@
+pub mod Plain
 pub mod Lettering
 pub mod Refilling
 pub mod Spelling

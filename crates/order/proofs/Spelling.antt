@@ -11,7 +11,7 @@ use Rattle.text.proofs.Cutting.{field_unique}
 use Rattle.order.specs.declared.limits.Limit.TheVariants.{Time, Grade, Both}
 use Rattle.order.specs.Letters.{Letters}
 use Rattle.order.specs.Statements.{Said, limit, place, States, order_form}
-use Rattle.order.specs.Plain.{letters_lack, limit_letter}
+use Rattle.order.proofs.Plain.{letters_lack, limit_letter}
 
 -- each letter of an order's lines is that of a kind
 pub order_letters : (b : ℕ) → OneOf order_form.letters b → (k : Kind) × (letter_of k ≡ b)

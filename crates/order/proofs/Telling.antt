@@ -12,8 +12,8 @@ use Rattle.order.specs.declared.Order.{Order}
 use Rattle.order.specs.Letters.{Letters, mask_of}
 use Rattle.order.specs.Statements.{Said, limit, place, InRange, Stated, order_form}
 use Rattle.sheet.specs.Masks.{mask_shown}
-use Rattle.order.specs.Texts.{Tells, filled, drawn_pairs, in_order, too_short, stated_with, Outcome, Drawn, Told}
-use Rattle.order.specs.Plain.{order_plain}
+use Rattle.order.specs.Texts.{Tells, filled, drawn_pairs, in_order, too_short, stated_with, Outcome, Agrees, Drawn, Told}
+use Rattle.order.proofs.Plain.{order_plain}
 use Rattle.order.proofs.Pairing.{filled_shown}
 
 -- after the limit come the places
@@ -121,6 +121,25 @@ accepted_short text before f after x sum h =
     let e = one text (stated y.1.0) (stated sum) y.1.1 h in
     let same : y.1.0 ≡ sum = cc in
     (y.0, subst (λ (d : Stated). length before < length d.places) same y.1.2))
+    x.0
+
+-- an outcome leaves no other
+pub only_ending : (text before : List ℕ) (r : Result Order Fault) (after : List ℕ) → Outcome text before r after → (e : Ending Stated) → Ends order_form text e → Agrees e before r after
+only_ending text before (Ok o) after x (stated sum) h =
+    let e = one text (stated sum) (stated (stated_with o.limit x.0)) h x.1 in
+    let same : sum ≡ stated_with o.limit x.0 = cc in
+    let masks = sym (ap (λ (d : Stated). d.places) same) in
+    (same ∙ ap (stated_with o.limit) masks, x.2 ∙ ap length masks, x.4 ∙ ap (λ m. filled m before) masks)
+only_ending text before (Ok o) after x (refused r n) h = apart (stated_with o.limit x.0) r n (one text (stated (stated_with o.limit x.0)) (refused r n) x.1 h)
+only_ending text before (Err f) after x (stated sum) h = accepted_short text before f after x sum h
+only_ending text before (Err f) after x (refused r n) h =
+    ⊎_elim
+    (λ (y : Failed text f).
+    let e = one text (refused y.0 y.1) (refused r n) y.3 h in
+    let e₁ : y.0 ≡ r = cc in
+    let e₂ : y.1 ≡ n = cc in
+    y.2 ∙ (λ i. in_order (e₁ i) (e₂ i)))
+    (λ (y : Short text before f). absurd (apart y.1.0 r n (one text (stated y.1.0) (refused r n) y.1.1 h)))
     x.0
 
 pub told_by : (text before : List ℕ) (r : Result Order Fault) (after : List ℕ) → Outcome text before r after → Told text before r after

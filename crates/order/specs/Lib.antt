@@ -3,4 +3,3 @@ pub mod Limits
 pub mod Statements
 pub mod Texts
 pub mod Steps
-pub mod Plain

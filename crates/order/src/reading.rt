@@ -5,7 +5,6 @@ ghost use Rattle.order.specs.Letters.{Letters};
 ghost use Rattle.order.specs.Statements.{Said, place, Spelled, Stated, order_form};
 ghost use Rattle.order.specs.Texts.{Outcome, Agrees, Told};
 ghost use Rattle.order.specs.Steps.{said_by, stated_by, whole_stated, Adds};
-ghost use Rattle.order.specs.Plain.{order_plain};
 
 use crate::Order;
 use crate::filling::fill;
@@ -164,8 +163,6 @@ impl Draft for OrderDraft {
             masks: self.masks,
         })
     }
-
-    ghost plain = { order_plain };
 }
 
 // The order that a text states, with the open letters of its places in the memory of a sheet, one number a place; or the

@@ -1,9 +1,18 @@
-use Rattle.std.proofs.Common.{rules, Err}
-use Rattle.order.proofs.Telling.{told_by}
+use Rattle.std.proofs.Common.{rules, Ok, Err}
+use Rattle.order.proofs.Telling.{only_ending, told_by}
 use Rattle.order.proofs.reading.read.Goals as goal
+
+pub returns-in_err-limit-clause-only : goal.returns-in_err-limit-clause-only
+returns-in_err-limit-clause-only c = only_ending _ _ _ _ (search rules)
 
 pub returns-in_err-limit-clause-told : goal.returns-in_err-limit-clause-told
 returns-in_err-limit-clause-told c = told_by _ _ _ _ (search rules)
 
+pub returns-then-len-memory-clause-only : goal.returns-then-len-memory-clause-only
+returns-then-len-memory-clause-only c = only_ending _ _ (Err c.of_sheet.result) c.args.memory.now (search rules)
+
 pub returns-then-len-memory-clause-told : goal.returns-then-len-memory-clause-told
 returns-then-len-memory-clause-told c = told_by _ _ (Err c.of_sheet.result) c.args.memory.now (search rules)
+
+pub returns-clause-only : goal.returns-clause-only
+returns-clause-only c = only_ending _ c.args.memory.now (Ok (record { limit = c.in_ok-limit.field-0.limit; places = c.len-2.result })) c.fill.new.memory (search rules)

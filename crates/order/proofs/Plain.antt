@@ -1,5 +1,4 @@
--- A line of an order states one thing at the most: its letter tells the kind, and its fields tell the rest. The proof stands
--- here because the reader of texts asks for it as a law. Assumes nothing.
+-- A line of an order states one thing at the most: its letter tells the kind, and its fields tell the rest. Assumes nothing.
 use Rattle.std.proofs.Common.{◌≡◌, ℕ, ◌+◌, ◌<◌, List, [], ◌∷◌, decimal, sym, ap, ◌∙◌, subst, refl, inl, inr, arith}
 use Rattle.text.specs.Fields.{fielded, Short, Lacks}
 use Rattle.text.specs.Reading.{Known, Plain}
