@@ -72,7 +72,8 @@ pub enum Layer {
     Order,
 }
 
-// A refusal, what it is of, and the line at fault: counted from 1, and 0 where no line is.
+// A refusal, what it is of, and the line at fault: counted from 1, and 0 where no line is. It is no `Option`, since the line is
+// printed as it stands, 0 too.
 #[derive(Clone, Copy, PartialEq, Eq, Debug)]
 pub struct Fault {
     pub refusal: Refusal,
@@ -81,7 +82,7 @@ pub struct Fault {
 }
 
 impl Source {
-    // The layer of what was read.
+    // The layer of what was read, asked for by name like that of a refusal.
     pub fn layer(self) -> Layer
         ensures { result ≡ source_layer self }
     {
@@ -94,6 +95,7 @@ impl Source {
 }
 
 impl Refusal {
+    // The number that is printed. It is asked for by name: a `u8::from` would not say what it is.
     pub fn number(self) -> u8
         ensures { result ≡ number_of self }
     {

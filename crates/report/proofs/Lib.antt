@@ -1,2 +1,1 @@
-mod Growing
 mod Listing

@@ -74,6 +74,7 @@ pub fn stroke_field(rest: &[u8]) -> Option<(u8, &[u8])>
 pub fn numbers<const N: usize>(rest: &[u8]) -> Option<[u32; N]>
     ensures { MatchOption result ((ns : List ℕ) → Numbered N rest.now ns → ⊥) (λ ns. Numbered N rest.now ns) }
 {
+    // Written by index: what is written through `iter_mut` of an array is not known after the loop.
     let mut found = [0u32; N];
     let mut rest = rest;
     for i in 0..N {

@@ -15,7 +15,8 @@ pub enum Kind {
     Place,
 }
 
-// The kind that the first letter of a line says.
+// The kind that the first letter of a line says. No `TryFrom`: the letters as cases of a small function of a `char` are a form
+// that this project keeps to.
 pub fn kind_of(letter: char) -> Option<Kind>
     ensures { MatchOption result ((k : Kind) → letter_of k ≢ letter) (λ k. letter_of k ≡ letter) }
 {

@@ -45,7 +45,8 @@ pub fn line(text: &[u8], number: usize) -> Option<&[u8]>
     }
 }
 
-// The line that a fault names, a part of the text that it names.
+// The line that a fault names, a part of the text that it names. The two texts stay two parameters, a form that this project
+// keeps to: one function of both texts and a fault.
 pub fn faulty_line<'a>(book: &'a [u8], order: &'a [u8], fault: Fault) -> Option<&'a [u8]>
     ensures { MatchOption result ((line : List ℕ) → FaultyLine fault.source book.now order.now fault.line line → ⊥) (λ x. FaultyLine fault.source book.now order.now fault.line x.now) }
 {

@@ -4,7 +4,8 @@ ghost use Rattle.std.specs.Prelude.{◌≤◌, length};
 use arrayvec::ArrayVec;
 use itoa::Buffer;
 
-// A text of at most 8,192 bytes, the longest that is ever read. What is put at its end beyond that is lost.
+// A text of at most 8,192 bytes, the longest that is ever read. What is put at its end beyond that is lost. It is put there by
+// calls, and not by `write!` of a `Display`: they take no heap and cannot fail, where `write!` answers a `Result`.
 #[derive(Drop)]
 pub struct Page {
     bytes: ArrayVec<u8, 8192>,

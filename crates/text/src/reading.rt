@@ -65,9 +65,10 @@ pub fn read<D: Draft>(draft: D, source: Source, text: &[u8]) -> Result<D::Whole,
     }
     let mut draft = draft;
     let mut rest = text;
-    // The number of the line past the last is wanted after the loop too, where `enumerate` would have let its count go.
+    // Counted by hand: the number of the line past the last is wanted after the loop too, where `enumerate` has let it go.
     let mut number: usize = 1;
     while !rest.is_empty() {
+        // A `match`, here and at the end: with `map_err` and `?` the proof did not close.
         match take_line(&mut draft, rest) {
             Ok(after) => rest = after,
             Err(refusal) => return Err(fault_at(source, refusal, number)),
