@@ -47,6 +47,7 @@ fn time_in(number: u32) -> Result<u32, Refusal>
     Ok(number)
 }
 
+// Two methods, one for each kind of rule, since the named fields of a line are all that they differ in.
 impl CutFields {
     ghost use Rattle.book.specs.Fields.{cut_rule, RuleIn};
 

@@ -16,6 +16,9 @@ pub(crate) enum Line<'a> {
     Note(&'a [u8]),
 }
 
+// A function for each letter, with what its fields say as its clause: in the `match` of `read_line`, as a `map` with a closure,
+// the proof did not close.
+
 // What a line states whose letter is `k`.
 fn parts_line(rest: &[u8]) -> Option<Line>
     ensures { RestRead book_form said_by 107 rest.now result }

@@ -37,6 +37,9 @@ struct WholeOrder {
     masks: ArrayVec<u32, 16>,
 }
 
+// A function for each letter, with what its fields say as its clause: in the `match` of `read_line`, as a `map` with a closure,
+// the proof did not close.
+
 // What a line states whose letter is `t`.
 fn time_line(rest: &[u8]) -> Option<Line>
     ensures { RestRead order_form said_by 116 rest.now result }
