@@ -1,5 +1,6 @@
 pub mod Ranging
 pub mod Spelling
+pub mod Standing
 pub mod Putting
 pub mod Telling
 pub mod Returning

@@ -15,7 +15,7 @@ use Rattle.book.specs.Ranges.{InRange, Lawful}
 use Rattle.book.specs.Statements.{Said, parts, rule, note, Stated, book_form}
 use Rattle.book.specs.Texts.{without_notes, Tells, stated_in, IsRule, Outcome, Told}
 use Rattle.book.proofs.Spelling.{book_plain}
-use Rattle.book.proofs.Putting.{lawful_of}
+use Rattle.book.proofs.Standing.{Sound, reads_sound}
 
 -- after the number of parts come the rules
 record Then (k : ℕ) (done : List Rule) (ls : List Said) (whole : Stated) : Type 0 where
@@ -75,14 +75,16 @@ parts_told k (parts n ∷ ls) rules bs w h e =
     )
 parts_told k (rule u ∷ ls) rules bs w h e = let z : ◌≡◌ {A = ℕ} 0 1 = cc in absurd (omega arith)
 
-pub accepted_tells : (text : List ℕ) (k : ℕ) (rules : List Rule) → Lawful k rules → Accepted book_form text (record { parts = Some k; rules = rules }) → Tells text k rules
-accepted_tells text k rules w a = record {
-  short = a.reached.short;
-  lines = a.lines;
-  listed = listed book_form a.lines book_form.blank text _ a.reached.reads;
-  told = first_parts a.lines text k rules a.reached.reads;
-  lawful = w;
-}
+pub accepted_tells : (text : List ℕ) (k : ℕ) (rules : List Rule) → Accepted book_form text (record { parts = Some k; rules = rules }) → Tells text k rules
+accepted_tells text k rules a =
+    let s : Sound (Some k) rules = reads_sound a.lines book_form.blank text (record { parts = Some k; rules = rules }) [] refl a.reached.reads in
+    record {
+      short = a.reached.short;
+      lines = a.lines;
+      listed = listed book_form a.lines book_form.blank text _ a.reached.reads;
+      told = first_parts a.lines text k rules a.reached.reads;
+      lawful = record { some_parts = s.0; few_parts = s.1; some_rules = a.passed.0; few_rules = s.2; ranged = s.3; lettered_strokes = s.4 };
+    }
 
 pub tells_accepted : (text : List ℕ) (k : ℕ) (rules : List Rule) → Tells text k rules → Accepted book_form text (record { parts = Some k; rules = rules })
 tells_accepted text k rules t = record {
@@ -92,6 +94,6 @@ tells_accepted text k rules t = record {
 }
 
 pub told_by : (text : List ℕ) (r : Result Book Fault) → Outcome text r → Told text r
-told_by text (Ok b) o = accepted_tells text b.parts (vec_items b.rules) (lawful_of b) o
+told_by text (Ok b) o = accepted_tells text b.parts (vec_items b.rules) o
 told_by text (Err f) o = λ k rules t.
     (only_ending book_form book_plain stated_in IsRule source.Book text (Err f) o (stated (record { parts = Some k; rules = rules })) (tells_accepted text k rules t)).0

@@ -2,7 +2,7 @@
 use Rattle.std.proofs.Common.{◌≡◌, ℕ, ◌+◌, ◌*◌, ◌<◌, ◌≤◌, List, [], ◌∷◌, ◌++◌, map, length, get_or, take, drop, set, decimal, sym, refl, ap, ◌∙◌, subst, append_assoc, append-nil, arith, length-append, length-take}
 use Rattle.std.specs.List.{AllByRecursion}
 use Rattle.std.proofs.ByRecursion.{All-append, All-push, All-get_or}
-use Rattle.std.proofs.lemmas.List.{take_more_set, at_drop_more, at_drop_all}
+use Rattle.std.proofs.lemmas.List.{nil_from_length, take_all, take_more_set, at_drop_more, at_drop_all}
 use Rattle.std.proofs.lemmas.Fmt.{length-decimal-le, decimal_injective}
 use Rattle.text.specs.Fields.{Lacks, Ended, NumberField, StrokeField, Numbered, numbered, fielded, Short, Stroke}
 use Rattle.text.proofs.Cutting.{span_unique, number_unique, stroke_unique, decimal_lacks}
@@ -137,3 +137,12 @@ unfolding fielded
 found_over {i = i} f h some k ns w =
     let c = w.count in
     some (ap length (sym (sym (at_drop_all numbered ns i (omega arith)) ∙ found_left f (omega arith) ns (omega arith) w)))
+
+pub found_all : {whole found : List ℕ} {i : ℕ} {rest : List ℕ} {n : ℕ} → Found whole found i rest → length found ≡ n → length found ≤ i → length rest ≡ 0 → Numbered n whole found
+found_all {whole} {found} {i} {rest} f k h e =
+    let all = take_all i found h in
+    record {
+      count = k;
+      whole = sym (append-nil (numbered found)) ∙ ap (λ l. numbered found ++ l) (sym (nil_from_length rest e)) ∙ ap (λ l. numbered l ++ rest) (sym all) ∙ f.front;
+      short = subst (AllByRecursion Short) all f.short;
+    }

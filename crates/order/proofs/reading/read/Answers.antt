@@ -1,4 +1,6 @@
 use Rattle.std.proofs.Common.{rules, Ok, Err}
+use Rattle.order.specs.Texts.{stated_with}
+use Rattle.order.proofs.Outcomes.{outcome_short}
 use Rattle.order.proofs.Telling.{only_ending, told_by}
 use Rattle.order.proofs.reading.read.Goals as goal
 
@@ -9,7 +11,7 @@ pub returns-in_err-limit-clause-told : goal.returns-in_err-limit-clause-told
 returns-in_err-limit-clause-told c = told_by _ _ _ _ (search rules)
 
 pub returns-then-len-memory-clause-only : goal.returns-then-len-memory-clause-only
-returns-then-len-memory-clause-only c = only_ending _ _ (Err c.of_sheet.result) c.args.memory.now (search rules)
+returns-then-len-memory-clause-only c = let o = outcome_short c.args.text.now c.args.memory.now (stated_with c.in_ok-limit.field-0.limit c.in_ok-limit.field-0.masks.items) in only_ending _ _ (Err c.of_sheet.result) c.args.memory.now (search (rules, o))
 
 pub returns-then-len-memory-clause-told : goal.returns-then-len-memory-clause-told
 returns-then-len-memory-clause-told c = told_by _ _ (Err c.of_sheet.result) c.args.memory.now (search rules)
