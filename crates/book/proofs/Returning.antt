@@ -62,7 +62,9 @@ module _ (b : Book) (text : List ℕ) (same : text ≡ book_text b) where
       let sum = only (stated (record { parts = Some b.parts; rules = vec_items b.rules })) (tells_accepted _ _ _ tells) in
       let e = ap (λ (d : Stated). d.parts) sum in
       let k : c.parts ≡ b.parts = cc in
-      (k, sym (ap (λ (d : Stated). d.rules) sum), w.1 ∙ ap (λ m. book_text b ++ drop m before) w.0)
+      let us : vec_items c.rules ≡ vec_items b.rules = sym (ap (λ (d : Stated). d.rules) sum) in
+      let told = subst (λ n. Tells (book_text b) n (vec_items c.rules)) (sym k) (subst (λ rs. Tells (book_text b) b.parts rs) (sym us) (written_tells _ _ (lawful_of b))) in
+      (told, k, us, w.1 ∙ ap (λ m. book_text b ++ drop m before) w.0)
 
   pub again_none : (f : Fault) (before : List ℕ) → Told text (Err f) → ReadBack b before (Err f.refusal) before
   again_none f before told = (inl (sym (ap (λ (x : Fault). x.refusal) (told _ _ tells))), refl)

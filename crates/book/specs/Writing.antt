@@ -6,6 +6,7 @@ use Rattle.refusal.specs.declared.Refusal.TheVariants.{LentTooShort, OutOfMemory
 use Rattle.book.specs.declared.rules.Rule.{Rule}
 use Rattle.book.specs.declared.books.Book.{Book}
 use Rattle.book.specs.Statements.{Said, parts, rule, line_text}
+use Rattle.book.specs.Texts.{Tells}
 
 -- a statement as a line, ended by byte 10
 abbrev pub ended_line : Said → List ℕ
@@ -23,8 +24,8 @@ abbrev pub Wrote : List ℕ → List ℕ → Result ℕ Refusal → List ℕ →
 Wrote text before (Ok n) after = (n ≡ length text) × (after ≡ text ++ drop n before)
 Wrote text before (Err r) after = (LentTooShort ≡ r) × (length before < length text) × (after ≡ before)
 
--- c is the book b again, and the text of b is at the front of after; or there was no memory for the book, or before is too
--- short for the text, and before stays as it is
+-- the text of b tells the book c, which is b again, and stands at the front of after; or there was no memory for the book, or
+-- before is too short for the text, and before stays as it is
 abbrev pub ReadBack : Book → List ℕ → Result Book Refusal → List ℕ → Type 0
-ReadBack b before (Ok c) after = (c.parts ≡ b.parts) × (vec_items c.rules ≡ vec_items b.rules) × (after ≡ book_text b ++ drop (length (book_text b)) before)
+ReadBack b before (Ok c) after = Tells (book_text b) c.parts (vec_items c.rules) × (c.parts ≡ b.parts) × (vec_items c.rules ≡ vec_items b.rules) × (after ≡ book_text b ++ drop (length (book_text b)) before)
 ReadBack b before (Err r) after = ((OutOfMemory ≡ r) ⊎ ((LentTooShort ≡ r) × (length before < length (book_text b)))) × (after ≡ before)

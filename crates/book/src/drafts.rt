@@ -87,6 +87,8 @@ impl BookDraft {
 }
 
 impl Draft for BookDraft {
+    ghost use Rattle.book.specs.Drafts.{stated_by};
+
     type Whole = Book;
 
     ghost Said = { Said };
@@ -95,7 +97,7 @@ impl Draft for BookDraft {
 
     ghost form = { book_form };
 
-    ghost stated = { λ d. record { parts = d.parts; rules = d.rules.items } };
+    ghost stated = { stated_by };
 
     ghost whole = { stated_in };
 

@@ -7,7 +7,7 @@ ghost use Rattle.refusal.specs.Layers.{layer_of, layer_name, source_layer};
 ghost use Rattle.refusal.specs.Faults.{on_sheet, in_text, fault_line};
 ghost use Rattle.refusal.specs.declared.Refusal.TheVariants.{OutOfMemory};
 
-use std::alloc::{AllocError, AllocFailed};
+use std::alloc::AllocFailed;
 use std::fmt;
 
 // One case for each reason to refuse. The numbers 1 to 19 are the workshop's; 31 is want of memory.
@@ -150,15 +150,7 @@ impl Refusal {
     }
 }
 
-// Where the allocator gives no memory, `?` answers that refusal.
-impl From<AllocError> for Refusal {
-    ghost from_gives = { λ _ r. r ≡ OutOfMemory };
-
-    fn from(_error: AllocError) -> Refusal {
-        Refusal::OutOfMemory
-    }
-}
-
+// Where the allocator gives no memory for what was to be stored, `?` answers that refusal.
 impl<T: Drop> From<AllocFailed<T>> for Refusal {
     ghost from_gives = { λ _ r. r ≡ OutOfMemory };
 
