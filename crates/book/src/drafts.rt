@@ -46,7 +46,7 @@ impl BookDraft {
         if self.parts.is_some() {
             return Err(Refusal::PartsMisplaced);
         }
-        if k < 1 || k > 32 {
+        if !(1..=32).contains(&k) {
             return Err(Refusal::OutOfRange);
         }
         self.parts = Some(k as u8);

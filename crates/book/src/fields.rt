@@ -47,7 +47,8 @@ fn time_in(number: u32) -> Result<u32, Refusal>
     Ok(number)
 }
 
-// Two methods, one for each kind of rule, since the named fields of a line are all that they differ in.
+// A method for each kind of line: one function for both would take five parameters, each field of its own, and its clause
+// would name the five, where each method's names the line.
 impl CutFields {
     ghost use Rattle.book.specs.Fields.{cut_rule, RuleIn};
 

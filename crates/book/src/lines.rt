@@ -16,8 +16,8 @@ pub(crate) enum Line<'a> {
     Note(&'a [u8]),
 }
 
-// A function for each letter, with what its fields say as its clause: in the `match` of `read_line`, as a `map` with a closure,
-// the proof did not close.
+// A function for each letter whose line has fields, with what they say as its clause: in the `match` of `read_line`, as a `map`
+// with a closure, the proof did not close.
 
 // What a line states whose letter is `k`.
 fn parts_line(rest: &[u8]) -> Option<Line>
@@ -56,13 +56,6 @@ fn pair_line(rest: &[u8]) -> Option<Line>
     }))
 }
 
-// What a line states whose letter is `n`: all the rest is the note's words.
-fn note_line(rest: &[u8]) -> Option<Line>
-    ensures { RestRead book_form said_by 110 rest.now result }
-{
-    Some(Line::Note(rest))
-}
-
 // What a line states, by its first letter.
 pub(crate) fn read_line(line: &[u8]) -> Result<Line, Refusal>
     ensures { LineRead book_form said_by line.now result }
@@ -72,7 +65,7 @@ pub(crate) fn read_line(line: &[u8]) -> Result<Line, Refusal>
         Kind::Parts => parts_line(rest),
         Kind::Cut => cut_line(rest),
         Kind::Pair => pair_line(rest),
-        Kind::Note => note_line(rest),
+        Kind::Note => Some(Line::Note(rest)),
         _ => return Err(Refusal::UnknownLine),
     };
     stated.ok_or(Refusal::MalformedField)

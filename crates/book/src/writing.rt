@@ -11,6 +11,9 @@ use refusal::Refusal;
 use std::alloc::Global;
 use text::Page;
 
+// On a page, by calls and not by `write!` of a `Display`: putting takes no heap and cannot fail, so neither can `page_of`.
+// Numbers are widened by `as`, where `u32::from` would need an equation more for each in the proof.
+
 // The line of a rule.
 fn put_rule(page: &mut Page, rule: Rule)
     ensures { Appended page.old (ended_line (rule_said rule)) page.new }

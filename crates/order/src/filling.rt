@@ -9,7 +9,7 @@ pub(crate) fn fill(memory: &mut [u32], masks: &[u32])
     requires small { AllByRecursion (λ mask. mask < 2 ^ 26) masks.now }
     ensures { memory.new ≡ filled masks.now memory.old }
 {
-    // Written by index: what is written through `iter_mut` is not known after the loop.
+    // Written by index: with `memory.iter_mut().zip(masks)` the proof did not close.
     for (i, mask) in masks.iter().enumerate() {
         memory[i] = (memory[i] >> 26 << 26) | *mask;
     }

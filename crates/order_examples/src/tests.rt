@@ -10,6 +10,7 @@ use std::process::Abort;
 use std::test::Fail;
 
 // The order is refused with that number and layer at that line, and the memory is as it was.
+// As for a book, in a crate of its own: a library for what the two tests share would be no plainer.
 fn refused(
     rt: &impl Abort,
     text: &[u8],

@@ -25,6 +25,7 @@ pub fn order_summary<S: Sheet>(heap: Global, limit: Limit, sheet: &S) -> Result<
 pub fn order_report(heap: Global, text: &[u8]) -> Result<Vec<u8>, ReportError>
     ensures { OrderReport text.now result }
 {
+    // The memory of the sheet, lent to the reader: as many numbers as an order may have places.
     let mut memory = [0u32; 16];
     match read(text, &mut memory) {
         Ok(order) => {

@@ -6,6 +6,8 @@ ghost use Rattle.report.specs.Sheets.{if_open, open_letters, place_line, sheet_t
 use sheet::Sheet;
 use text::Page;
 
+// On a page, by calls and not by `write!` of a `Display`: putting takes no heap and cannot fail, so neither can `put_sheet`.
+
 // Puts the stroke on the page if it is open at the place.
 fn put_stroke<S: Sheet>(page: &mut Page, sheet: &S, place: usize, stroke: u8)
     ensures { Appended page.old (if_open (S.shown sheet.now) place stroke) page.new }

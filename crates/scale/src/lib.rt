@@ -13,7 +13,8 @@ pub trait Scale: Copy {
     // What the calls below answer.
     ghost ops: { Ops Self };
 
-    // Whether `self` is not above `other`. Code over any scale goes by `ops.le` and its laws, so no `Ord` is asked of a scale.
+    // Whether `self` is not above `other`. Code over any scale goes by `ops.le` and its laws, so no `Ord` is asked of a scale,
+    // whose `min` would be `lesser`.
     fn at_most(self, other: Self) -> bool
         ensures { result ≡ ops.le self other };
 

@@ -3,6 +3,7 @@
 // the barred one would break the law that none is.
 // `Time` and `Grade` are two types, and not one that is generic in its number: the number, the barred number, the join and
 // the price of a work all differ, so each would be a parameter, and little would be left.
+// The barred price is a number of each scale, and no `None`: a rule of the workshop, whose limits and prices hold it.
 mod grades;
 mod time_grades;
 mod times;

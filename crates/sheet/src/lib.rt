@@ -21,8 +21,8 @@ pub use strikes::strike;
 
 // A sheet: a length n of at most 24 that never changes, and a set of open pairs. A pair is a place from 1 to n and a
 // stroke from A to Z, given by its letter's byte. No call refuses, whatever place and byte it is given. The two stand
-// apart in each call: whoever calls has them apart, from a line `strike 1 S` or from two loops, and a clause on a struct
-// of the two would have to name both its fields.
+// apart in each call: whoever calls has them apart, from a loop over places and one over strokes, and a clause on a struct of
+// the two would have to name both its fields.
 pub trait Sheet {
     // the length
     ghost places: { Self → ℕ };

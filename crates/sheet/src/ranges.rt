@@ -6,5 +6,5 @@ ghost use Rattle.sheet.specs.Pairs.{in_range};
 pub fn in_range(length: usize, place: usize, stroke: u8) -> bool
     ensures { result ≡ in_range length place stroke }
 {
-    1 <= place && place <= length && b'A' <= stroke && stroke <= b'Z'
+    (1..=length).contains(&place) && stroke.is_ascii_uppercase()
 }

@@ -13,10 +13,10 @@ pub fn strike<S: Sheet>(sheet: &mut S, place: usize, stroke: u8) -> Result<(), R
     ensures after { MatchResult result (λ _. S.shown sheet.new ≡ closed_at (S.shown sheet.old) place stroke) (λ _. sheet.new ≡ sheet.old) }
     ensures memory { S.kept sheet.old sheet.new }
 {
-    if place == 0 || place > sheet.length() {
+    if !(1..=sheet.length()).contains(&place) {
         return Err(Refusal::NoSuchPlace);
     }
-    if stroke < b'A' || stroke > b'Z' {
+    if !stroke.is_ascii_uppercase() {
         return Err(Refusal::NotAStroke);
     }
     if !sheet.look(place, stroke) {

@@ -6,6 +6,9 @@ use Rattle.std.specs.Int.{IsInRange}
 use Rattle.std.proofs.lemmas.Str.Parse.{IsNumeralModel, numerals_by_value, tells_digits, digit_at, digits_value_short, parse_plain}
 use Rattle.std.proofs.lemmas.Fmt.{decimal-digits_value, digits_decimal, first_decimal, decimal_nonempty, length-decimal-le}
 use Rattle.std.proofs.lemmas.Bool.{cases_lt}
+use Rattle.std.specs.Str.{IsUtf8}
+use Rattle.std.proofs.lemmas.Str.{IsUtf8-from_ascii}
+use Rattle.std.proofs.lemmas.Fmt.{IsAscii-decimal}
 use Rattle.text.specs.Fields.{Writes}
 
 pub own : IsNumeralModel (AllDigits 10) (digits_value 10)
@@ -38,6 +41,10 @@ pub writes_value : (ds : List ℕ) → AllDigits 10 ds → 0 < length ds → len
 writes_value ds d some short first =
     let small : digits_value 10 ds < 10 ^ 6 = digits_value_short own ds 6 d short in
     (decimal-digits_value own ds d some first (omega arith), small)
+
+-- what is no text at all writes no number
+pub not_text : (field : List ℕ) → (IsUtf8 field → ⊥) → (n : ℕ) → Writes field n → ⊥
+not_text field h n w = h (subst IsUtf8 w.0 (IsUtf8-from_ascii _ (IsAscii-decimal n (omega arith))))
 
 -- what the library's `parse` says of a field with no sign, no leading zero and at most six digits
 module _ {E : Type 0} (field : List ℕ) (some : 0 < length field) (short : length field ≤ 6) (zero : get_or field 0 0 ≡ 48 → length field ≤ 1) where

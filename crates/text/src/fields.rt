@@ -21,9 +21,7 @@ pub fn number(field: &[u8]) -> Option<u32>
     if *first == b'0' && !others.is_empty() {
         return None;
     }
-    let Ok(digits) = from_utf8(field) else {
-        return None;
-    };
+    let digits = from_utf8(field).ok()?;
     digits.parse().ok()
 }
 
@@ -74,15 +72,14 @@ pub fn stroke_field(rest: &[u8]) -> Option<(u8, &[u8])>
 pub fn numbers<const N: usize>(rest: &[u8]) -> Option<[u32; N]>
     ensures { MatchOption result ((ns : List ℕ) → Numbered N rest.now ns → ⊥) (λ ns. Numbered N rest.now ns) }
 {
-    // Written by index: what is written through `iter_mut` of an array is not known after the loop.
     let mut found = [0u32; N];
     let mut rest = rest;
-    for i in 0..N {
+    for slot in found.iter_mut() {
         let (n, more) = number_field(rest)?;
-        found[i] = n;
+        *slot = n;
         rest = more;
     }
-    if rest.len() != 0 {
+    if !rest.is_empty() {
         return None;
     }
     Some(found)

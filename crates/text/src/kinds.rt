@@ -38,6 +38,6 @@ pub fn line_kind(line: &[u8]) -> Option<(Kind, &[u8])>
     ensures { MatchOption result ((k : Kind) (rest : List ℕ) → letter_of k ∷ rest ≢ line.now) (λ x. letter_of x.0 ∷ x.1.now ≡ line.now) }
 {
     let (letter, rest) = line.split_first()?;
-    let kind = kind_of(*letter as char)?;
+    let kind = kind_of(char::from(*letter))?;
     Some((kind, rest))
 }

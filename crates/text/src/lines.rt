@@ -17,11 +17,8 @@ pub(crate) fn place(text: &[u8], mark: u8) -> usize
 pub fn first_line(text: &[u8]) -> Option<(&[u8], &[u8])>
     ensures { MatchOption result (Lacks 10 text.now) (λ x. Starts text.now x.0.now x.1.now) }
 {
-    let end = place(text, b'\n');
-    if end >= text.len() {
-        return None;
-    }
-    Some((&text[0..end], &text[end + 1..]))
+    let end = text.iter().position(|b| *b == b'\n')?;
+    Some((&text[..end], &text[end + 1..]))
 }
 
 // The text's line of that number, counted from 1, without its byte 10.
@@ -36,13 +33,10 @@ pub fn line(text: &[u8], number: usize) -> Option<&[u8]>
         let (_, after) = first_line(rest)?;
         rest = after;
     }
-    if rest.len() == 0 {
+    if rest.is_empty() {
         return None;
     }
-    match first_line(rest) {
-        Some((line, _)) => Some(line),
-        None => Some(rest),
-    }
+    Some(first_line(rest).map_or(rest, |(line, _)| line))
 }
 
 // The line that a fault names, a part of the text that it names. The two texts stay two parameters, a form that this project

@@ -12,6 +12,7 @@ fn accepted(rt: &impl Abort, heap: Global, text: &[u8], expected: &[u8]) -> Resu
 }
 
 // The order is refused, and just this is printed.
+// As for a book, in a crate of its own: a library for what the two tests share would be no plainer.
 fn refused(rt: &impl Abort, heap: Global, text: &[u8], expected: &[u8]) -> Result<(), Fail> {
     let report = order_report(heap, text);
     assert!(rt; report.is_err(), "the order is accepted");

@@ -1,9 +1,6 @@
-use Rattle.std.proofs.Common.{rules, subst, arith}
-use Rattle.std.specs.Str.{IsUtf8}
+use Rattle.std.proofs.Common.{rules, arith}
 use Rattle.std.proofs.lemmas.Bool.Decides.{nat_tests}
-use Rattle.std.proofs.lemmas.Str.{IsUtf8-from_ascii}
-use Rattle.std.proofs.lemmas.Fmt.{IsAscii-decimal}
-use Rattle.text.proofs.Numerals.{writes_some, writes_short, writes_first, writes_digit, parsed}
+use Rattle.text.proofs.Numerals.{writes_some, writes_short, writes_first, writes_digit, not_text, parsed}
 use Rattle.text.proofs.fields.number.Goals as goal
 
 pub returns-in_err-first : goal.returns-in_err-first
@@ -18,11 +15,13 @@ returns-then-first-eq43 c = λ n w. let h = writes_digit _ n w 0 (omega (arith, 
 pub returns-then-not-is_empty : goal.returns-then-not-is_empty
 returns-then-not-is_empty c = λ n w. let h = writes_first _ n w (let f = c.in_ok-first.ensures.cases in grind arith) in let f = c.in_ok-first.ensures.cases in grind (arith, nat_tests)
 
-pub returns-in_default : goal.returns-in_default
-returns-in_default c = λ n w. c.in_default.ensures.cases.0 (subst IsUtf8 w.0 (IsUtf8-from_ascii _ (IsAscii-decimal n (omega arith))))
+pub returns-in_err-digits : goal.returns-in_err-digits
+returns-in_err-digits c =
+    let not_utf8 = not_text c.args.field.now in
+    rw c.from_residual-in_err-digits.ensures (search (rules, not_utf8))
 
 pub returns : goal.returns
 returns c =
     let f = c.in_ok-first.ensures.cases in
-    let h = parsed c.args.field.now (grind arith) (omega arith) (grind (arith, nat_tests)) c.in-Ok.digits.now c.parse.result c.in-Ok.ensures.cases.0 c.parse.ensures.value.0 (grind arith) in
+    let h = parsed c.args.field.now (grind arith) (omega arith) (grind (arith, nat_tests)) c.in_ok-digits.digits.now c.parse.result (search rules) c.parse.ensures.value.0 (grind arith) in
     search rules
