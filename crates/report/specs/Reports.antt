@@ -15,6 +15,7 @@ use Rattle.order.specs.Statements.{order_form}
 use Rattle.order.specs.Texts as order
 use Rattle.order.specs.Texts.{drawn_pairs, in_order}
 use Rattle.report.specs.Sheets.{sheet_text}
+use Rattle.refusal.specs.declared.Source.{Source}
 use Rattle.refusal.specs.declared.Source.TheVariants as source
 use Rattle.report.specs.declared.errors.ReportError.{ReportError}
 use Rattle.report.specs.declared.errors.ReportError.TheVariants.{Refused, OutOfMemory}
@@ -54,3 +55,14 @@ abbrev pub printed : {Z : Type 0} → Result (Vec ℕ Z) ReportError → List �
 printed (Ok v) = vec_items v
 printed (Err (Refused s v)) = vec_items v
 printed (Err OutOfMemory) = []
+
+-- what is refused, as an error says it
+abbrev pub refused_text : Source → List ℕ
+refused_text source.Sheet = codes "the sheet is refused"
+refused_text source.Book = codes "the book is refused"
+refused_text source.Order = codes "the order is refused"
+
+-- the error that a program ends with
+abbrev pub error_text : ReportError → List ℕ
+error_text (Refused s v) = refused_text s
+error_text OutOfMemory = codes "memory allocation failed"

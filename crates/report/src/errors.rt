@@ -1,7 +1,7 @@
 // Why a program prints no report of what it read, and what it prints then.
-ghost use Rattle.std.specs.Prelude.{◌≡◌};
+ghost use Rattle.std.specs.Prelude.{◌≡◌, Some};
 ghost use Rattle.report.specs.declared.errors.ReportError.TheVariants.{OutOfMemory};
-ghost use Rattle.report.specs.Reports.{printed};
+ghost use Rattle.report.specs.Reports.{printed, error_text};
 
 use refusal::Source;
 use std::alloc::AllocError;
@@ -35,7 +35,10 @@ impl From<AllocError> for ReportError {
     }
 }
 
+// The error that a program ends with.
 impl fmt::Display for ReportError {
+    ghost output = { λ e. Some (error_text e) };
+
     fn fmt<W: fmt::Write>(&self, f: &mut fmt::Formatter<W>) -> fmt::Result {
         match self {
             ReportError::Refused { of, .. } => match *of {
@@ -43,7 +46,7 @@ impl fmt::Display for ReportError {
                 Source::Book => write!(f, "the book is refused"),
                 Source::Order => write!(f, "the order is refused"),
             },
-            ReportError::OutOfMemory => write!(f, "{}", AllocError),
+            ReportError::OutOfMemory => write!(f, "memory allocation failed"),
         }
     }
 }
