@@ -1,0 +1,17 @@
+pub mod Indexing
+pub mod Building
+pub mod Filling
+pub mod Uniqueness
+pub mod Searching
+pub mod Keeping
+pub mod Drawing
+pub mod Following
+pub mod Picking
+pub mod Tracing
+pub mod Naming
+pub mod Pushing
+pub mod Lowering
+pub mod Advancing
+pub mod Settling
+pub mod Counting
+pub mod Cutting

@@ -1,0 +1,112 @@
+-- The first split and rule that attain the least weight, and the codes that are written of them.
+use Rattle.std.proofs.Common.{◌≡◌, ℕ, ◌+◌, ◌*◌, ◌<◌, ◌≤◌, true, false, if◌then◌else◌, ◌==◌, ◌≢◌, List, length, slice_set, sym, refl, ◌∙◌, inl, inr, arith, get_or-set_other, get_or-set_same}
+use Rattle.std.proofs.lemmas.Bool.{both_ways, cases_lt, cases_order}
+use Rattle.scale.specs.Ops.{Ops, Laws}
+use Rattle.book.specs.declared.rules.Rule.{Rule}
+use Rattle.sheet.specs.Pairs.{Pairs}
+use Rattle.derivations.specs.Least.{LeastOf}
+use Rattle.derivations.specs.Trees.{Tree, rule_at, Weights, weight}
+use Rattle.derivations.specs.Costs.{DerivesOver, LeastOver}
+use Rattle.derivations.specs.Ties.{first_rule, split, NotAfter}
+use Rattle.derivations.proofs.Deriving.{derives_listed, derives_part, derives_split}
+use Rattle.planner.specs.Boards.{span_number, entry_index, entry_of}
+use Rattle.planner.specs.Charts.{Filled, Inside, DerivesBy, Seen}
+use Rattle.planner.specs.Codes.{code_of, Picked, Coded, CodedUpTo}
+use Rattle.planner.proofs.Indexing.{number_within, number_back, same_span, index_below, index_in_span}
+use Rattle.planner.proofs.Filling.{seen_next, none_shorter}
+
+-- none of the derivations that have been seen is as cheap as the least
+abbrev pub Missed : {S : Type 0} → Ops S → Weights S → List Rule → Pairs → ℕ → ℕ → ℕ → S → ℕ → ℕ → Type 0
+Missed o W rules shown part before len least m r =
+    (u : Tree) → DerivesOver rules shown part before len u → Seen m r u → o.le (weight o W before u) least ≡ true → ⊥
+
+module _ {S : Type 0} {o : Ops S} (laws : Laws o) (W : Weights S) (rules : List Rule) (shown : Pairs) (part before len : ℕ) (least : S) where
+  pub missed_first : (first : ℕ) → 1 ≤ len → first ≡ (if len == 1 then 0 else 1) → Missed o W rules shown part before len least first 0
+  missed_first first some is u d (inl h) cheap = absurd (none_shorter len first (split u) some is h (derives_split rules shown part before len u d).1)
+  missed_first first some is u d (inr h) cheap = absurd (omega (arith, h.1))
+
+  missed_next : (m r : ℕ) → Missed o W rules shown part before len least m r → ((u : Tree) → DerivesBy rules shown part before len m r u → o.le (weight o W before u) least ≡ true → ⊥) → Missed o W rules shown part before len least m (r + 1)
+  missed_next m r missed here u d s cheap = elim (seen_next m r u s) [
+    | inl seen ↦ missed u d seen cheap
+    | inr new ↦ here u (d, new.0, new.1) cheap
+  ]
+
+  -- the rule is for another part
+  pub missed_other : (m r : ℕ) → ((rule_at rules r).part ≡ part → ⊥) → Missed o W rules shown part before len least m r → Missed o W rules shown part before len least m (r + 1)
+  missed_other m r other missed = missed_next m r missed (λ u d cheap. other (rw d.2 at (derives_part rules shown part before len u d.0)))
+
+  -- or it weighs more
+  pub missed_dear : (m r q : ℕ) (c : S) → q ≡ part → LeastOf o (DerivesBy rules shown q before len m r) (weight o W before) c → false ≡ o.le c least → Missed o W rules shown part before len least m r → Missed o W rules shown part before len least m (r + 1)
+  missed_dear m r q c same l dear missed = missed_next m r missed (λ u d cheap. both_ways _ (sym dear) (laws.transitive c _ least (l.below u (rw same d)) cheap))
+
+  pub missed_round : (m r : ℕ) → length rules ≤ r → Missed o W rules shown part before len least m r → Missed o W rules shown part before len least (m + 1) 0
+  missed_round m r all missed u d (inl h) cheap = elim (cases_lt (split u) m) [
+    | inl lt ↦ missed u d (inl lt) cheap
+    | inr ge ↦ missed u d (inr (omega (arith, h), omega (arith, derives_listed rules shown part before len u d))) cheap
+  ]
+  missed_round m r all missed u d (inr h) cheap = absurd (omega (arith, h.1))
+
+  first_here : (m r : ℕ) → Missed o W rules shown part before len least m r → (t : Tree) → split t ≡ m → first_rule t ≡ r → (u : Tree) → DerivesOver rules shown part before len u → o.le (weight o W before u) least ≡ true → NotAfter t u
+  first_here m r missed t at by u d cheap = elim (cases_order (split u) (split t)) [
+    | inl same ↦ elim (cases_lt (first_rule u) (first_rule t)) [
+      | inl lt ↦ absurd (missed u d (inr (same ∙ at, omega (arith, lt, by))) cheap)
+      | inr ge ↦ inr (sym same, ge)
+    ]
+    | inr (inl lt) ↦ absurd (missed u d (inl (omega (arith, lt, at))) cheap)
+    | inr (inr gt) ↦ inl gt
+  ]
+
+  pub picked_here : (m r q : ℕ) (c : S) → LeastOver o W rules shown part before len least → o.le o.barred least ≡ false → q ≡ part → LeastOf o (DerivesBy rules shown q before len m r) (weight o W before) c → true ≡ o.le c least → Missed o W rules shown part before len least m r → Picked o W rules shown part before len (code_of m r)
+  picked_here m r q c all goes same l cheap missed = elim l.met [
+    | inl e ↦ absurd (both_ways _ goes (rw e at (sym cheap)))
+    | inr f ↦
+        let t = f.0 in
+        let d : DerivesBy rules shown part before len m r t = rw (← same) f.1 in
+        let cheapest : o.le (weight o W before t) least ≡ true = rw f.2 (sym cheap) in (
+          t,
+          record {
+            derives = d.0;
+            least = λ u e. laws.transitive _ least _ cheapest (all.below u e);
+            first = λ u e w. first_here m r missed t d.1 d.2 u e (rw w cheapest);
+          },
+          rw (d.1, d.2) refl,
+        )
+  ]
+
+  -- some split and rule attain it, so one is picked before all are seen
+  pub picked_before : (m code : ℕ) → len ≤ m → LeastOver o W rules shown part before len least → o.le o.barred least ≡ false → Missed o W rules shown part before len least m 0 → Picked o W rules shown part before len code
+  picked_before m code all l goes missed = elim l.met [
+    | inl e ↦ absurd (both_ways _ goes (rw e (laws.reflexive o.barred)))
+    | inr f ↦ absurd (missed f.0 f.1 (inl (omega (arith, (derives_split rules shown part before len f.0 f.1).0))) (rw f.2 (laws.reflexive least)))
+  ]
+
+module _ {S : Type 0} (o : Ops S) (W : Weights S) (rules : List Rule) (shown : Pairs) (k : ℕ) (board : List S) where
+  -- an inside chart is filled up to each span
+  pub inside_filled : (n before len : ℕ) → 1 ≤ len → before + len ≤ n → Inside o W rules n shown k board → Filled o W rules shown k board (span_number before len)
+  inside_filled n before len some few inside q b l hq hl less =
+      inside q b l hq hl (number_back b l n hl (omega (arith, less, number_within before len n some few)))
+
+  -- a code that is written leaves those of the spans before
+  pub coded_put : (codes : List ℕ) (before len p code : ℕ) → Coded o W rules shown k board codes (span_number before len) → Coded o W rules shown k board (slice_set codes (entry_index k before len p) code) (span_number before len)
+  coded_put codes before len p code coded q b l hq hl less goes =
+      let other : entry_index k b l q ≢ entry_index k before len p = omega (arith, index_below k (span_number b l) (span_number before len) q hq less) in
+      rw (get_or-set_other codes (entry_index k before len p) (entry_index k b l q) code 0 other) (coded q b l hq hl less goes)
+
+  -- and comes after those of the parts before
+  pub coded_put_here : (codes : List ℕ) (before len p code : ℕ) → p < k → (span_number before len + 1) * k ≤ length codes → (o.le o.barred (entry_of o.barred k board p before len) ≡ false → Picked o W rules shown p before len code) → CodedUpTo o W rules shown k board codes before len p → CodedUpTo o W rules shown k board (slice_set codes (entry_index k before len p) code) before len (p + 1)
+  coded_put_here codes before len p code hp room picked coded q hq goes = elim (cases_lt q p) [
+    | inl lt ↦
+        let other : entry_index k before len q ≢ entry_index k before len p = omega arith in
+        rw (get_or-set_other codes (entry_index k before len p) (entry_index k before len q) code 0 other) (coded q lt goes)
+    | inr ge ↦
+        let same : q ≡ p = omega arith in
+        rw (same, get_or-set_same codes (entry_index k before len p) code 0 (index_in_span k before len p (length codes) hp room)) (picked (rw same at goes))
+  ]
+
+  pub coded_span : (codes : List ℕ) (before len p : ℕ) → 1 ≤ len → k ≤ p → Coded o W rules shown k board codes (span_number before len) → CodedUpTo o W rules shown k board codes before len p → Coded o W rules shown k board codes (span_number before len + 1)
+  coded_span codes before len p some all coded here q b l hq hl less goes = elim (cases_lt (span_number b l) (span_number before len)) [
+    | inl lt ↦ coded q b l hq hl lt goes
+    | inr ge ↦
+        let s = same_span b l before len hl some (omega arith) in
+        rw (s.0, s.1) (here q (omega arith) (rw (s.0, s.1) at goes))
+  ]

@@ -1,0 +1,83 @@
+// Pricing: what a given run costs.
+ghost use Rattle.std.specs.Prelude.{◌≡◌, ◌↔◌, ◌≢◌, ℕ, false, true, None, IfOk, IsErr, IsSome, length};
+ghost use Rattle.std.specs.List.{list_all};
+ghost use Rattle.sheet.specs.Pairs.{is_stroke};
+ghost use Rattle.derivations.specs.Costs.{Costs, cost, has};
+ghost use Rattle.derivations.specs.Trees.{prices};
+ghost use Rattle.planner.specs.Outcomes.{passed, priced, price_refused};
+
+use crate::boards::entries;
+use crate::prices::RulePrices;
+use crate::tasks::Task;
+use book::Book;
+use refusal::Refusal;
+use scale::Scale;
+use sheet::{MaskSheet, Sheet};
+
+// What the run costs. Refused, in this order, for a run of no place or of more than 24, for a byte that is no stroke, for a board
+// that is too short, and for a run that is not lawful. What the board holds after an answer, or after the last of these, is free.
+pub fn price<S: Scale>(book: &Book, run: &[u8], inside: &mut [S]) -> Result<S, Refusal>
+    ensures answer { result ≡ priced S.ops book.now.rules.items (price_refused book.now.parts run.now (length inside.old)) run.now }
+    ensures least { IfOk result (λ c. Costs S.ops (prices S.ops book.now.rules.items) book.now.rules.items run.now c × (c ≢ S.ops.barred)) }
+    ensures refused { price_refused book.now.parts run.now (length inside.old) ≡ None → (IsErr result ↔ Costs S.ops (prices S.ops book.now.rules.items) book.now.rules.items run.now S.ops.barred) }
+    ensures board { IsSome (price_refused book.now.parts run.now (length inside.old)) → inside.new ≡ inside.old }
+{
+    check(run, book.parts(), inside.len())?;
+    let cost = cost_of(book, run, inside);
+    if cost.is_barred() {
+        return Err(Refusal::NoRun);
+    }
+    Ok(cost)
+}
+
+// The checks before the search.
+fn check(run: &[u8], parts: u8, room: usize) -> Result<(), Refusal>
+    ensures { result ≡ passed (price_refused parts run.now room) }
+{
+    if run.is_empty() || 24 < run.len() {
+        return Err(Refusal::BadLength);
+    }
+    if !all_strokes(run) {
+        return Err(Refusal::NotAStroke);
+    }
+    if room < entries(run.len(), parts) {
+        return Err(Refusal::BoardTooShort);
+    }
+    Ok(())
+}
+
+// Whether each byte is a stroke.
+fn all_strokes(run: &[u8]) -> bool
+    ensures { result ≡ list_all is_stroke run.now }
+{
+    run.iter().all(|stroke| stroke.is_ascii_uppercase())
+}
+
+// What the run costs: the least cost over the sheet on which just its strokes are open.
+fn cost_of<S: Scale>(book: &Book, run: &[u8], inside: &mut [S]) -> S
+    requires { price_refused book.now.parts run.now (length inside.old) ≡ None }
+    ensures { result ≡ cost S.ops (prices S.ops book.now.rules.items) book.now.rules.items run.now }
+{
+    let mut masks = [0; 24];
+    let mut sheet = MaskSheet::new(&mut masks[..run.len()]);
+    draw(&mut sheet, run);
+    let prices = RulePrices {
+        rules: book.rules(),
+    };
+    let task = Task::new(book, &prices, &sheet);
+    task.fill_inside(inside);
+    task.least(inside)
+}
+
+// Opens the strokes of the run, on a sheet of as many places with nothing open.
+fn draw<H: Sheet>(sheet: &mut H, run: &[u8])
+    requires strokes { list_all is_stroke run.now ≡ true }
+    requires long { H.places sheet.old ≡ length run.now }
+    requires shut { (p c : ℕ) → H.shown sheet.old p c ≡ false }
+    ensures pairs { H.shown sheet.new ≡ has run.now }
+    ensures long { H.places sheet.new ≡ length run.now }
+{
+    for (before, stroke) in run.iter().enumerate() {
+        let _ = sheet.open(before + 1, *stroke);
+    }
+}

@@ -1,0 +1,81 @@
+// Pruning: the strokes that no run within a limit has are closed.
+ghost use Rattle.std.specs.Prelude.{◌≡◌, ◌≤◌, ◌↔◌, None, OnErr, IsErr, IsSome, length};
+ghost use Rattle.derivations.specs.Runs.{NoneWithin};
+ghost use Rattle.derivations.specs.Trees.{prices};
+ghost use Rattle.planner.specs.Outcomes.{Answered, OnePruned, PrunedTo, passed, prune_refused};
+
+use crate::boards::entries;
+use crate::prices::RulePrices;
+use crate::searches::prune_by;
+use book::Book;
+use refusal::Refusal;
+use scale::Scale;
+use sheet::Sheet;
+
+// What a prune answers: the cost of the cheapest run over the open strokes, and how many strokes it closed.
+#[derive(Clone, Copy, PartialEq, Eq, Debug)]
+pub struct Pruned<S> {
+    pub least: S,
+    pub closed: usize,
+}
+
+// Closes every open stroke that no run over the open strokes within the limit has at its place. Refused, in this order, for a
+// sheet without a place, for a barred limit, for a board that is too short, and where no run is within the limit; the sheet is
+// then as it was. The boards are working memory: what they hold after an answer, or after the last of these refusals, is free.
+pub fn prune<S: Scale, H: Sheet>(
+    sheet: &mut H,
+    book: &Book,
+    limit: S,
+    inside: &mut [S],
+    outside: &mut [S],
+) -> Result<Pruned<S>, Refusal>
+    ensures answer { Answered (prune_refused S.ops (H.places sheet.old) book.now.parts limit (length inside.old) (length outside.old)) (λ p. PrunedTo S.ops (prices S.ops book.now.rules.items) book.now.rules.items (H.places sheet.old) (H.shown sheet.old) limit (H.shown sheet.new) p.least p.closed) (NoneWithin S.ops (prices S.ops book.now.rules.items) book.now.rules.items (H.places sheet.old) (H.shown sheet.old) limit) result }
+    ensures refused { prune_refused S.ops (H.places sheet.old) book.now.parts limit (length inside.old) (length outside.old) ≡ None → (IsErr result ↔ NoneWithin S.ops (prices S.ops book.now.rules.items) book.now.rules.items (H.places sheet.old) (H.shown sheet.old) limit) }
+    ensures sheet { OnErr result (sheet.new ≡ sheet.old) }
+    ensures memory { H.kept sheet.old sheet.new }
+    ensures boards { IsSome (prune_refused S.ops (H.places sheet.old) book.now.parts limit (length inside.old) (length outside.old)) → (inside.new ≡ inside.old) × (outside.new ≡ outside.old) }
+{
+    check(
+        sheet.length(),
+        book.parts(),
+        limit,
+        inside.len(),
+        outside.len(),
+    )?;
+    let prices = RulePrices {
+        rules: book.rules(),
+    };
+    match prune_by(sheet, book, &prices, limit, inside, outside) {
+        Some(pruned) => Ok(pruned),
+        None => Err(Refusal::NoRun),
+    }
+}
+
+// The checks before the search, of a sheet of so many places and of the boards.
+fn check<S: Scale>(
+    places: usize,
+    parts: u8,
+    limit: S,
+    inside: usize,
+    outside: usize,
+) -> Result<(), Refusal>
+    requires { places ≤ 24 }
+    ensures { result ≡ passed (prune_refused S.ops places parts limit inside outside) }
+{
+    if places == 0 {
+        return Err(Refusal::BadLength);
+    }
+    if S::barred().at_most(limit) {
+        return Err(Refusal::LimitBarred);
+    }
+    let needed = entries(places, parts);
+    if inside < needed || outside < needed {
+        return Err(Refusal::BoardTooShort);
+    }
+    Ok(())
+}
+
+// A prune ends in one way.
+pub fn one_pruned<S: Scale>()
+    ensures { OnePruned S.ops }
+{}

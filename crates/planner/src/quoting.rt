@@ -1,0 +1,81 @@
+// Quoting: the cheapest run over the open strokes of a sheet.
+ghost use Rattle.std.specs.Prelude.{◌≡◌, ◌≤◌, ◌↔◌, None, OnErr, IsErr, IsSome, length};
+ghost use Rattle.derivations.specs.Runs.{NoneWithin};
+ghost use Rattle.derivations.specs.Trees.{prices};
+ghost use Rattle.planner.specs.Outcomes.{Answered, OneQuoted, QuotedAs, passed, quote_refused};
+
+use crate::boards::entries;
+use crate::prices::RulePrices;
+use crate::tasks::Task;
+use book::Book;
+use refusal::Refusal;
+use scale::Scale;
+use sheet::Sheet;
+
+// Writes the cheapest run over the open strokes into the lent run, by the tie rule, and answers its cost. Refused, in this
+// order, for a sheet without a place, for a barred limit, for a board that is too short, for a lent run that is too short, and
+// where no run is within the limit; the lent run is then as it was, and so are its bytes past the run where one is written. What
+// the boards hold after an answer, or after the last of these refusals, is free.
+pub fn quote<S: Scale, H: Sheet>(
+    sheet: &H,
+    book: &Book,
+    limit: S,
+    inside: &mut [S],
+    choices: &mut [u32],
+    run: &mut [u8],
+) -> Result<S, Refusal>
+    ensures answer { Answered (quote_refused S.ops (H.places sheet.now) book.now.parts limit (length inside.old) (length choices.old) (length run.old)) (λ c. QuotedAs S.ops (prices S.ops book.now.rules.items) book.now.rules.items (H.places sheet.now) (H.shown sheet.now) limit run.old run.new c) (NoneWithin S.ops (prices S.ops book.now.rules.items) book.now.rules.items (H.places sheet.now) (H.shown sheet.now) limit) result }
+    ensures refused { quote_refused S.ops (H.places sheet.now) book.now.parts limit (length inside.old) (length choices.old) (length run.old) ≡ None → (IsErr result ↔ NoneWithin S.ops (prices S.ops book.now.rules.items) book.now.rules.items (H.places sheet.now) (H.shown sheet.now) limit) }
+    ensures run { OnErr result (run.new ≡ run.old) }
+    ensures boards { IsSome (quote_refused S.ops (H.places sheet.now) book.now.parts limit (length inside.old) (length choices.old) (length run.old)) → (inside.new ≡ inside.old) × (choices.new ≡ choices.old) }
+{
+    check(
+        sheet.length(),
+        book.parts(),
+        limit,
+        inside.len(),
+        choices.len(),
+        run.len(),
+    )?;
+    let prices = RulePrices {
+        rules: book.rules(),
+    };
+    let task = Task::new(book, &prices, sheet);
+    match task.quote(limit, inside, choices, run) {
+        Some(cost) => Ok(cost),
+        None => Err(Refusal::NoRun),
+    }
+}
+
+// The checks before the search, of a sheet of so many places and of what is lent.
+fn check<S: Scale>(
+    places: usize,
+    parts: u8,
+    limit: S,
+    inside: usize,
+    choices: usize,
+    run: usize,
+) -> Result<(), Refusal>
+    requires { places ≤ 24 }
+    ensures { result ≡ passed (quote_refused S.ops places parts limit inside choices run) }
+{
+    if places == 0 {
+        return Err(Refusal::BadLength);
+    }
+    if S::barred().at_most(limit) {
+        return Err(Refusal::LimitBarred);
+    }
+    let needed = entries(places, parts);
+    if inside < needed || choices < needed {
+        return Err(Refusal::BoardTooShort);
+    }
+    if run < places {
+        return Err(Refusal::LentTooShort);
+    }
+    Ok(())
+}
+
+// A quote ends in one way.
+pub fn one_quoted<S: Scale>()
+    ensures { OneQuoted S.ops }
+{}
