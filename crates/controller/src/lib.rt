@@ -1,0 +1,46 @@
+// The entry of the saw's controller, which is a C program: what a run costs by a book's text, in one number.
+#![tactic(auto)]
+
+ghost use Rattle.std.specs.Prelude.{◌≡◌, length};
+ghost use Rattle.controller.specs.Packed.{Entered, answered, packed};
+
+use book::Book;
+use planner::price;
+use refusal::{Fault, Refusal};
+use scale::Time;
+use std::alloc::Global;
+
+#[cfg(test)]
+mod tests;
+
+// The time in tenths of a second, or the number of the refusal times 2 to the 32nd. The book's text is checked first, then that
+// the run has no 17th place, and then as for any price. The allocator takes no bytes, so a caller in C passes nothing for it. The
+// board has entries for 16 places and 32 parts.
+#[unsafe(no_mangle)]
+pub extern "C" fn waichuro_price(heap: Global, book: &[u8], run: &[u8]) -> u64
+    ensures { Entered book.now run.now result }
+{
+    let mut inside = [Time::new(0); 4352];
+    answer(book::read(heap, book), run, &mut inside)
+}
+
+// The same of a book as it was read, on a board that is lent.
+pub fn answer(read: Result<Book, Fault>, run: &[u8], inside: &mut [Time]) -> u64
+    ensures { result ≡ answered read run.now (length inside.old) }
+{
+    match read {
+        Ok(_) if 16 < run.len() => pack(Err(Refusal::TooManyPlaces)),
+        Ok(book) => pack(price(&book, run, inside)),
+        Err(fault) => pack(Err(fault.refusal)),
+    }
+}
+
+// A time or a refusal as one number.
+fn pack(priced: Result<Time, Refusal>) -> u64
+    ensures { result ≡ packed priced }
+{
+    match priced {
+        Ok(time) => u64::from(time.tenths()),
+        Err(refusal) => u64::from(refusal.number()) << 32,
+    }
+}
