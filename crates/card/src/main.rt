@@ -1,0 +1,24 @@
+// Reads book.txt and card.txt, and an order on standard input, and prints the card's rows with every stroke closed that no run
+// within the order's limit has; or the refusal and the faulty line. The file card.txt is as it was.
+#![tactic(auto)]
+
+use printing::card_report;
+use report::printed;
+use std::fs;
+use std::io::{Read, Write};
+
+// The bytes of a file; one that cannot be read counts as empty.
+fn text_of(rt: &HostRuntime, path: &str) -> Vec<u8> {
+    fs::read(rt, path).unwrap_or(Vec::new(rt.alloc()))
+}
+
+fn main(rt: HostRuntime) -> anyhow::Result<()> {
+    let book = text_of(&rt, "book.txt");
+    let mut card = text_of(&rt, "card.txt");
+    let mut order = Vec::new(rt.alloc());
+    rt.stdin().read_to_end(&mut order)?;
+    let report = card_report(rt.alloc(), &book, &mut card, &order);
+    rt.stdout().write_all(printed(&report))?;
+    report?;
+    Ok(())
+}

@@ -1,0 +1,6 @@
+mod Refusing
+mod Leaving
+mod Quoting
+mod Joining
+mod Telling
+mod Carding

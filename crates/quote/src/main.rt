@@ -1,0 +1,23 @@
+// Reads book.txt, and an order on standard input, and prints the cheapest run within the order's limit and what it costs, how
+// many strokes no run within the limit has, and each place with the strokes that are left; or the refusal and the faulty line.
+#![tactic(auto)]
+
+use printing::quote_report;
+use report::printed;
+use std::fs;
+use std::io::{Read, Write};
+
+// The bytes of a file; one that cannot be read counts as empty.
+fn text_of(rt: &HostRuntime, path: &str) -> Vec<u8> {
+    fs::read(rt, path).unwrap_or(Vec::new(rt.alloc()))
+}
+
+fn main(rt: HostRuntime) -> anyhow::Result<()> {
+    let book = text_of(&rt, "book.txt");
+    let mut order = Vec::new(rt.alloc());
+    rt.stdin().read_to_end(&mut order)?;
+    let report = quote_report(rt.alloc(), &book, &order);
+    rt.stdout().write_all(printed(&report))?;
+    report?;
+    Ok(())
+}
