@@ -1,0 +1,7 @@
+pub mod Answering
+pub mod Ending
+pub mod Narrowing
+pub mod Holding
+pub mod Living
+pub mod Lengthening
+pub mod Uniqueness

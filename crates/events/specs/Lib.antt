@@ -1,0 +1,4 @@
+pub mod States
+pub mod Steps
+pub mod Ledgers
+pub mod Lives
