@@ -1,0 +1,5 @@
+pub mod Copying
+pub mod Marking
+pub mod Calling
+pub mod Replaying
+pub mod Keeping

@@ -1,0 +1,3 @@
+pub mod Copies
+pub mod Marks
+pub mod Replays
