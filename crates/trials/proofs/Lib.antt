@@ -1,0 +1,5 @@
+mod Deciding
+mod Closing
+mod Quoting
+mod Ranging
+mod Testing

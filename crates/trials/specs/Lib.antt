@@ -1,0 +1,2 @@
+pub mod Jig
+pub mod Trials
