@@ -1,0 +1,14 @@
+use Rattle.std.proofs.Common.{arith}
+use Rattle.std.specs.declared.alloc.Global.{Global}
+use Rattle.answers.proofs.Reporting.{book_told, fault_said, order_refused, day_told}
+use Rattle.answers.proofs.offices.office_report.Goals as goal
+
+pub returns-in-Err-read : goal.returns-in-Err-read
+returns-in-Err-read c =
+    let book = book_told c.in-Ok.read c.in-Ok.ensures.told in
+    fault_said c.args.book.now c.args.order.now c.args.events.now Global c.in-Err-read.fault c.refused-in-Err-read.result (order_refused c.args.book.now c.args.order.now c.args.events.now book _ _ c.in-Err-read.fault (omega arith) c.in-Err-read.ensures.outcome) c.refused-in-Err-read.ensures
+
+pub returns : goal.returns
+returns c =
+    let book = book_told c.in-Ok.read c.in-Ok.ensures.told in
+    day_told c.args.book.now c.args.order.now c.args.events.now book _ _ c.new-sheet.result.memory.now c.in-Ok-read.drawn _ c.in-Ok-read.ensures.told c.read-2.auto.memory c.new-sheet.ensures.content c.in_ok-day_by.ensures

@@ -1,0 +1,62 @@
+// How the limits of each scale are written in a text.
+ghost use Rattle.std.specs.Prelude.{◌≡◌, ℕ, List, MatchOption, Some, refl};
+ghost use Rattle.answers.specs.Notations.{Notation, Writes};
+
+use scale::{Grade, Scale, Time, TimeGrade};
+use std::fmt::Display;
+use text::numbers;
+
+// A scale whose limits are written as numbers, and whose prices are printed.
+pub trait Figures: Scale + Display {
+    // how a limit is written, and how a price is printed
+    ghost notation: { Notation Self };
+
+    // The limit that `rest` writes, if it is just as many numbers as a limit has.
+    fn limit(rest: &[u8]) -> Option<Self>
+        ensures { MatchOption result ((limit : Self) → Writes notation rest.now limit → ⊥) (λ limit. Writes notation rest.now limit) };
+
+    // A price is printed so.
+    ghost printed: { (p : Self) → Self.output p ≡ Some (notation.text p) };
+}
+
+// One number, the tenths of a second.
+impl Figures for Time {
+    ghost use Rattle.answers.specs.Notations.{time_notation};
+
+    ghost notation = { time_notation };
+
+    ghost printed = { λ _. refl };
+
+    fn limit(rest: &[u8]) -> Option<Time> {
+        let [tenths] = numbers::<1>(rest)?;
+        Some(Time::new(tenths))
+    }
+}
+
+// One number, that of the blade heat; above 254 it is barred.
+impl Figures for Grade {
+    ghost use Rattle.answers.specs.Notations.{grade_notation};
+
+    ghost notation = { grade_notation };
+
+    ghost printed = { λ _. refl };
+
+    fn limit(rest: &[u8]) -> Option<Grade> {
+        let [level] = numbers::<1>(rest)?;
+        Some(Grade::new(u8::try_from(level).unwrap_or(u8::MAX)))
+    }
+}
+
+// Two numbers, the tenths of a second and that of the blade heat; barred where the second is above 254.
+impl Figures for TimeGrade {
+    ghost use Rattle.answers.specs.Notations.{time_grade_notation};
+
+    ghost notation = { time_grade_notation };
+
+    ghost printed = { λ _. refl };
+
+    fn limit(rest: &[u8]) -> Option<TimeGrade> {
+        let [tenths, level] = numbers::<2>(rest)?;
+        Some(TimeGrade::new(tenths, u8::try_from(level).unwrap_or(u8::MAX)))
+    }
+}

@@ -1,0 +1,108 @@
+// What a line of an event states.
+ghost use Rattle.std.specs.Prelude.{ℕ, List};
+ghost use Rattle.answers.specs.Lines.{RestRead, LineRead, OneReading};
+ghost use Rattle.answers.specs.declared.words.Word.TheVariants as word;
+
+use crate::figures::Figures;
+use crate::words::{Word, line_word};
+use refusal::Refusal;
+use text::{number_field, stroke_field};
+
+// An event as a line states it: a keep and a back are of the latest mark, whose slip the line does not name.
+#[derive(Clone, Copy, PartialEq, Eq, Debug)]
+pub enum EventLine<S> {
+    Strike { place: usize, stroke: u8 },
+    Mark,
+    Keep,
+    Back,
+    Prune { limit: S },
+    Quote { limit: S },
+}
+
+// How a line is read: what it states, or why it is refused.
+pub type Reading<S> = Result<EventLine<S>, Refusal>;
+
+// What a line states whose word is `strike`: its two fields are a place and a stroke.
+fn strike_line<S: Figures>(rest: &[u8]) -> Option<EventLine<S>>
+    ensures { RestRead S.notation word.Strike rest.now result }
+{
+    let (place, more) = number_field(rest)?;
+    let (stroke, more) = stroke_field(more)?;
+    if !more.is_empty() {
+        return None;
+    }
+    Some(EventLine::Strike {
+        place: place as usize,
+        stroke,
+    })
+}
+
+// What a line states whose word is `mark`: no field follows.
+fn mark_line<S: Figures>(rest: &[u8]) -> Option<EventLine<S>>
+    ensures { RestRead S.notation word.Mark rest.now result }
+{
+    if rest.is_empty() {
+        Some(EventLine::Mark)
+    } else {
+        None
+    }
+}
+
+// What a line states whose word is `keep`: no field follows.
+fn keep_line<S: Figures>(rest: &[u8]) -> Option<EventLine<S>>
+    ensures { RestRead S.notation word.Keep rest.now result }
+{
+    if rest.is_empty() {
+        Some(EventLine::Keep)
+    } else {
+        None
+    }
+}
+
+// What a line states whose word is `back`: no field follows.
+fn back_line<S: Figures>(rest: &[u8]) -> Option<EventLine<S>>
+    ensures { RestRead S.notation word.Back rest.now result }
+{
+    if rest.is_empty() {
+        Some(EventLine::Back)
+    } else {
+        None
+    }
+}
+
+// What a line states whose word is `prune`: its fields are the limit.
+fn prune_line<S: Figures>(rest: &[u8]) -> Option<EventLine<S>>
+    ensures { RestRead S.notation word.Prune rest.now result }
+{
+    let limit = S::limit(rest)?;
+    Some(EventLine::Prune { limit })
+}
+
+// What a line states whose word is `quote`: its fields are the limit.
+fn quote_line<S: Figures>(rest: &[u8]) -> Option<EventLine<S>>
+    ensures { RestRead S.notation word.Quote rest.now result }
+{
+    let limit = S::limit(rest)?;
+    Some(EventLine::Quote { limit })
+}
+
+// What a line states; refused where its word names no event, and where its fields are not those of the word.
+pub fn event_line<S: Figures>(line: &[u8]) -> Reading<S>
+    ensures { LineRead S.notation line.now result }
+{
+    let (word, rest) = line_word(line).ok_or(Refusal::UnknownLine)?;
+    let stated = match word {
+        Word::Strike => strike_line(rest),
+        Word::Mark => mark_line(rest),
+        Word::Keep => keep_line(rest),
+        Word::Back => back_line(rest),
+        Word::Prune => prune_line(rest),
+        Word::Quote => quote_line(rest),
+    };
+    stated.ok_or(Refusal::MalformedField)
+}
+
+// A line is read in one way only.
+pub fn one_reading<S: Figures>()
+    ensures { OneReading S.notation }
+{}

@@ -1,0 +1,5 @@
+// Days of events at the edges, and what is printed of them.
+#![tactic(auto)]
+
+#[cfg(test)]
+mod tests;
