@@ -1,5 +1,5 @@
 // The open pairs of one sheet made those of another.
-ghost use Rattle.std.specs.Prelude.{◌≡◌, ◌&&◌};
+ghost use Rattle.std.specs.Prelude.{◌≡◌};
 ghost use Rattle.marks.specs.Copies.{copied, copied_at};
 
 use sheet::Sheet;

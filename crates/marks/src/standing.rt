@@ -1,7 +1,7 @@
 // The marks that stand on a sheet.
-ghost use Rattle.std.specs.Prelude.{◌≡◌, ◌∷◌, ◌++◌, [], MatchResult, is_ok, length, nat_le};
+ghost use Rattle.std.specs.Prelude.{◌≡◌, ◌∷◌, ◌++◌, [], MatchResult, is_ok, length};
 ghost use Rattle.events.specs.States.{fits};
-ghost use Rattle.refusal.specs.declared.Refusal.TheVariants.{MarksFull, WrongSlip};
+ghost use Rattle.refusal.specs.declared.Refusal.TheVariants.{WrongSlip};
 
 use arrayvec::ArrayVec;
 use refusal::Refusal;
