@@ -12,7 +12,8 @@ use Rattle.report.specs.declared.errors.ReportError.{ReportError}
 use Rattle.report.specs.declared.errors.ReportError.TheVariants.{Refused, OutOfMemory}
 use Rattle.printing.specs.Bounds.{bound_of}
 use Rattle.printing.specs.Refusals.{BookTold}
-use Rattle.answers.specs.Offices.{notation_of, DayPrinted, FaultSaid, DayTold, OfficeRefused, OfficeReport}
+use Rattle.printing.specs.Steps.{FaultSaid}
+use Rattle.answers.specs.Offices.{notation_of, DayPrinted, DayTold, OfficeRefused, OfficeReport}
 
 -- the book that was read is told
 abbrev pub book_told : {text : List ℕ} (b : Book) → Tells text b.parts (vec_items b.rules) → BookTold text

@@ -1,5 +1,5 @@
 -- A day of events at the sheet of an order: what is played, and what is printed of it. Assumes nothing.
-use Rattle.std.specs.Prelude.{◌≡◌, ℕ, List, map, length, Result, Vec, vec_items}
+use Rattle.std.specs.Prelude.{◌≡◌, ℕ, List, map, length, Result, Vec}
 use Rattle.scale.specs.Ops.{Ops}
 use Rattle.refusal.specs.declared.Refusal.{Refusal}
 use Rattle.refusal.specs.declared.Fault.{Fault}
@@ -12,9 +12,7 @@ use Rattle.planner.specs.Boards.{board_entries}
 use Rattle.events.specs.declared.Accepted.{Accepted}
 use Rattle.events.specs.Steps.{Lent, lent_all, book_setting}
 use Rattle.marks.specs.Replays.{Replayed, each_lent}
-use Rattle.report.specs.Reports.{FaultShown}
 use Rattle.report.specs.declared.errors.ReportError.{ReportError}
-use Rattle.report.specs.declared.errors.ReportError.TheVariants as report
 use Rattle.printing.specs.Bounds.{bound_of}
 use Rattle.printing.specs.Refusals.{BookTold, OrderTold, Refuses}
 use Rattle.printing.specs.Reports.{Reports}
@@ -46,11 +44,6 @@ pub record DayPrinted {S : Type 0} (o : Ops S) (notation : Notation S) (rules : 
 abbrev pub OnePrint : {S : Type 0} → Ops S → Notation S → Type 0
 OnePrint o notation =
     (rules : List Rule) (parts n : ℕ) (birth : Pairs) (text one two : List ℕ) → DayPrinted o notation rules parts n birth text one → DayPrinted o notation rules parts n birth text two → one ≡ two
-
--- the error of a report says this fault of the two texts, or is of want of memory
-abbrev pub FaultSaid : List ℕ → List ℕ → Fault → ReportError → Type 0
-FaultSaid book order f (report.Refused s v) = (s ≡ f.source) × FaultShown book order f (vec_items v)
-FaultSaid book order f report.OutOfMemory = Unit {0}
 
 module _ (book order events : List ℕ) where
   -- both texts are told, and the events are played on the order's sheet, with limits as its limit is one

@@ -1,11 +1,10 @@
 // A day of events at the sheet of an order.
 ghost use Rattle.std.specs.Prelude.{◌≡◌, IfOk, length};
 ghost use Rattle.events.specs.Steps.{book_setting};
-ghost use Rattle.planner.specs.Boards.{board_entries};
 ghost use Rattle.printing.specs.Bounds.{bound_of};
 ghost use Rattle.marks.specs.Replays.{Replayed, each_lent};
 ghost use Rattle.answers.specs.Slips.{day_sheet};
-ghost use Rattle.answers.specs.Offices.{day_lent, notation_of, DayPrinted, FaultSaid, OfficeReport, OnePrint};
+ghost use Rattle.answers.specs.Offices.{day_lent, notation_of, DayPrinted, OfficeReport, OnePrint};
 
 use crate::days::event_lines;
 use crate::figures::Figures;
@@ -15,19 +14,12 @@ use book::Book;
 use events::{Answer, Event};
 use marks::replay;
 use order::Limit;
-use refusal::{Fault, Refusal};
-use report::{ReportError, fault_report};
+use printing::{entries, fault_error};
+use refusal::Refusal;
+use report::ReportError;
 use scale::{Grade, Time, TimeGrade};
 use sheet::{MaskSheet, Sheet};
 use std::alloc::{AllocError, Global};
-
-// How many entries a board has for the sheet and the book.
-fn entries<H: Sheet>(sheet: &H, book: &Book) -> usize
-    ensures { result ≡ board_entries (H.places sheet.now) book.now.parts }
-{
-    let places = sheet.length();
-    places * (places + 1) / 2 * book.parts() as usize
-}
 
 // Plays the events on the sheet, on boards from the allocator, and answers each.
 fn day_answers<S: Figures, H: Sheet>(
@@ -92,19 +84,6 @@ fn day_by<H: Sheet>(
     }
 }
 
-// The error of a report where the book or the order is at fault: the fault as it is printed, with its line.
-fn refused(heap: Global, book: &[u8], order: &[u8], fault: Fault) -> ReportError
-    ensures { FaultSaid book.now order.now fault result }
-{
-    match fault_report(heap, book, order, fault) {
-        Ok(text) => ReportError::Refused {
-            of: fault.source,
-            text,
-        },
-        Err(_) => ReportError::OutOfMemory,
-    }
-}
-
 // What the events of a day answer, played one after the other on the sheet that the order draws; or the fault of the book or of
 // the order, and then no event is played.
 pub fn office_report(
@@ -117,13 +96,13 @@ pub fn office_report(
 {
     let read = match book::read(heap, book) {
         Ok(read) => read,
-        Err(fault) => return Err(refused(heap, book, order, fault)),
+        Err(fault) => return Err(fault_error(heap, book, order, fault)),
     };
     // The memory of the sheet, lent to the reader: as many numbers as an order may have places.
     let mut memory = [0u32; 16];
     let drawn = match order::read(order, &mut memory) {
         Ok(drawn) => drawn,
-        Err(fault) => return Err(refused(heap, book, order, fault)),
+        Err(fault) => return Err(fault_error(heap, book, order, fault)),
     };
     let mut sheet = MaskSheet::new(&mut memory[..drawn.places]);
     Ok(day_by(heap, &read, &mut sheet, drawn.limit, events)?)

@@ -21,11 +21,16 @@ Makes Good Faulty (Ok a) = Good a
 Makes Good Faulty (Err (failure.Faulty f)) = Faulty f
 Makes Good Faulty (Err failure.OutOfMemory) = Unit {0}
 
+-- the error of a report says this fault of the two texts, or is of want of memory
+abbrev pub FaultSaid : List ℕ → List ℕ → Fault → ReportError → Type 0
+FaultSaid book order f (report.Refused s v) = (s ≡ f.source) × FaultShown book order f (vec_items v)
+FaultSaid book order f report.OutOfMemory = Unit {0}
+
 -- the error of a report says the fault of the two texts, or is of want of memory
 abbrev pub Says : List ℕ → List ℕ → Failure → ReportError → Type 0
-Says book order (failure.Faulty f) (report.Refused s v) = (s ≡ f.source) × FaultShown book order f (vec_items v)
+Says book order (failure.Faulty f) e = FaultSaid book order f e
 Says book order failure.OutOfMemory (report.Refused s v) = ⊥
-Says book order failure report.OutOfMemory = Unit {0}
+Says book order failure.OutOfMemory report.OutOfMemory = Unit {0}
 
 -- the pairs of a sheet are pruned
 abbrev pub PrunedBy : {S : Type 0} → Ops S → S → List Rule → ℕ → Pairs → Pairs → Type 0

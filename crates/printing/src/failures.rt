@@ -2,7 +2,7 @@
 ghost use Rattle.std.specs.Prelude.{◌≡◌};
 ghost use Rattle.refusal.specs.Faults.{on_sheet};
 ghost use Rattle.printing.specs.declared.failures.Failure.TheVariants.{Faulty, OutOfMemory};
-ghost use Rattle.printing.specs.Steps.{Says};
+ghost use Rattle.printing.specs.Steps.{FaultSaid, Says};
 
 use refusal::{Fault, Refusal};
 use report::{ReportError, fault_report};
@@ -20,16 +20,23 @@ impl Failure {
     pub(crate) fn error(self, heap: Global, book: &[u8], order: &[u8]) -> ReportError
         ensures { Says book.now order.now self result }
     {
-        let Failure::Faulty(fault) = self else {
-            return ReportError::OutOfMemory;
-        };
-        match fault_report(heap, book, order, fault) {
-            Ok(text) => ReportError::Refused {
-                of: fault.source,
-                text,
-            },
-            Err(_) => ReportError::OutOfMemory,
+        match self {
+            Failure::Faulty(fault) => fault_error(heap, book, order, fault),
+            Failure::OutOfMemory => ReportError::OutOfMemory,
         }
+    }
+}
+
+// The error of a report where there is a fault: the fault as it is printed, with its line of the two texts.
+pub fn fault_error(heap: Global, book: &[u8], order: &[u8], fault: Fault) -> ReportError
+    ensures { FaultSaid book.now order.now fault result }
+{
+    match fault_report(heap, book, order, fault) {
+        Ok(text) => ReportError::Refused {
+            of: fault.source,
+            text,
+        },
+        Err(_) => ReportError::OutOfMemory,
     }
 }
 

@@ -7,4 +7,6 @@ mod prunes;
 mod quotes;
 
 pub use cards::card_report;
+pub use failures::fault_error;
+pub use prunes::entries;
 pub use quotes::quote_report;

@@ -17,7 +17,7 @@ use sheet::Sheet;
 use std::alloc::Global;
 
 // How many entries a board has for the sheet and the book.
-pub(crate) fn entries<H: Sheet>(sheet: &H, book: &Book) -> usize
+pub fn entries<H: Sheet>(sheet: &H, book: &Book) -> usize
     ensures { result ≡ board_entries (H.places sheet.now) book.now.parts }
 {
     let places = sheet.length();

@@ -6,7 +6,7 @@ use Rattle.answers.proofs.offices.office_report.Goals as goal
 pub returns-in-Err-read : goal.returns-in-Err-read
 returns-in-Err-read c =
     let book = book_told c.in-Ok.read c.in-Ok.ensures.told in
-    fault_said c.args.book.now c.args.order.now c.args.events.now Global c.in-Err-read.fault c.refused-in-Err-read.result (order_refused c.args.book.now c.args.order.now c.args.events.now book _ _ c.in-Err-read.fault (omega arith) c.in-Err-read.ensures.outcome) c.refused-in-Err-read.ensures
+    fault_said c.args.book.now c.args.order.now c.args.events.now Global c.in-Err-read.fault c.fault_error-in-Err-read.result (order_refused c.args.book.now c.args.order.now c.args.events.now book _ _ c.in-Err-read.fault (omega arith) c.in-Err-read.ensures.outcome) c.fault_error-in-Err-read.ensures
 
 pub returns : goal.returns
 returns c =
