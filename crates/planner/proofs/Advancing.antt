@@ -1,5 +1,5 @@
 -- Which pushes are done: split by split, rule by rule, span by span.
-use Rattle.std.proofs.Common.{◌≡◌, ℕ, ◌+◌, ◌-◌, ◌<◌, ◌≤◌, ◌⊎◌, List, length, slice_set, sym, refl, ap, ◌∙◌, subst, inl, inr, arith}
+use Rattle.std.proofs.Common.{◌≡◌, ℕ, ◌+◌, ◌-◌, ◌<◌, ◌≤◌, ◌⊎◌, List, length, slice_set, sym, refl, ap, ◌∙◌, subst, inl, inr, arith, ◌≢◌, get_or-set_other}
 use Rattle.std.proofs.lemmas.Bool.{cases_lt}
 use Rattle.scale.specs.Ops.{Ops, Laws, lesser_of}
 use Rattle.book.specs.declared.rules.RightSide.TheVariants.{Pair}
@@ -8,7 +8,7 @@ use Rattle.derivations.specs.Trees.{Makes, Weights}
 use Rattle.derivations.proofs.Deriving.{one_pair}
 use Rattle.planner.specs.Boards.{span_number, entry_index, entry_of}
 use Rattle.planner.specs.Pushes.{Push, to_left, to_right, Lowers, pushed, rule_of, span_of, split_of, PushedDown, FromRule, FromSplit}
-use Rattle.planner.proofs.Indexing.{number_left, number_right, same_span, index_in_board}
+use Rattle.planner.proofs.Indexing.{number_left, number_right, same_index, same_span, index_in_board}
 use Rattle.planner.proofs.Lowering.{same_pushes, brings_same, push_one}
 
 module _ (rules : List Rule) (n p b l : ℕ) where
@@ -87,21 +87,20 @@ module _ {S : Type 0} {o : Ops S} (laws : Laws o) (W : Weights S) (rules : List 
         let d2 = push_one laws W rules n k inside next right (before + m) (len - m) v s hr low2 D1 x2 (omega arith) (omega arith) (makes, some, less, few, refl, refl, refl) (omega arith) (λ x p b l h. elim [ inl d ↦ from x d | inr e ↦ let z = ap span_of e in omega (arith, z) ]) ev' (index_in_board k (before + m) (len - m) right n (length next) hr (omega arith) (omega arith) d1.room) d1 in
         same_pushes laws W rules n k inside (slice_set next (entry_index k (before + m) (len - m) right) v) (λ x. D1 x ⊎ (x ≡ x2)) (FromSplit s r (m + 1)) to back d2
 
-    -- the same, as the code has it
-    pub split_code : (outside1 outside2 : List S) (around price after beside u x v y : S)
-        → around ≡ entry_of o.barred k outside q before len
-        → price ≡ W r (before + 1) len
+    -- the same, as the code has it: what stands around the span is joined with the rule's price once for all splits
+    pub split_code : (outside1 outside2 : List S) (around after beside x y : S)
+        → around ≡ o.join (entry_of o.barred k outside q before len) (W r (before + 1) len)
         → beside ≡ entry_of o.barred k inside left before m
         → after ≡ entry_of o.barred k inside right (before + m) (len - m)
-        → u ≡ o.join price after
-        → x ≡ o.join around u
-        → v ≡ o.join price beside
-        → y ≡ o.join around v
+        → x ≡ o.join around after
+        → y ≡ o.join around beside
         → outside1 ≡ slice_set outside (entry_index k before m left) (lesser_of o (entry_of o.barred k outside left before m) x)
         → outside2 ≡ slice_set outside1 (entry_index k (before + m) (len - m) right) (lesser_of o (entry_of o.barred k outside1 right (before + m) (len - m)) y)
         → PushedDown o W rules n k inside outside (FromSplit (span_number before len) r m)
         → PushedDown o W rules n k inside outside2 (FromSplit (span_number before len) r (m + 1))
-    split_code outside1 outside2 around price after beside u x v y e_around e_price e_beside e_after e_u e_x e_v e_y e1 e2 d =
+    split_code outside1 outside2 around after beside x y e_around e_beside e_after e_x e_y e1 e2 d =
+        let with_after = laws.associative (entry_of o.barred k outside q before len) (W r (before + 1) len) after in
+        let with_beside = laws.associative (entry_of o.barred k outside q before len) (W r (before + 1) len) beside in
         let cost1 : x ≡ pushed o W (entry_of o.barred k inside) (entry_of o.barred k outside) (to_left r q left right before len m) = cc in
         let cost2 : y ≡ pushed o W (entry_of o.barred k inside) (entry_of o.barred k outside) (to_right r q left right before len m) = cc in
         let low = lesser_of o (entry_of o.barred k outside left before m) x in
@@ -109,3 +108,12 @@ module _ {S : Type 0} {o : Ops S} (laws : Laws o) (W : Weights S) (rules : List 
         let is : outside2 ≡ slice_set next (entry_index k (before + m) (len - m) right) (lesser_of o (entry_of o.barred k next right (before + m) (len - m)) y) = e2 ∙ ap (λ z. slice_set z (entry_index k (before + m) (len - m) right) (lesser_of o (entry_of o.barred k z right (before + m) (len - m)) y)) e1 in
         let done = split_more low (lesser_of o (entry_of o.barred k next right (before + m) (len - m)) y) (ap (lesser_of o (entry_of o.barred k outside left before m)) cost1) (ap (lesser_of o (entry_of o.barred k next right (before + m) (len - m))) cost2) d in
         subst (λ z. PushedDown o W rules n k inside z (FromSplit (span_number before len) r (m + 1))) (sym is) done
+
+    -- and the entries over the span stay as they are
+    pub span_kept : (outside1 outside2 : List S) (x y : S) → q < k → outside1 ≡ slice_set outside (entry_index k before m left) x → outside2 ≡ slice_set outside1 (entry_index k (before + m) (len - m) right) y → entry_of o.barred k outside2 q before len ≡ entry_of o.barred k outside q before len
+    span_kept outside1 outside2 x y hq e1 e2 =
+        let not_left : entry_index k before len q ≢ entry_index k before m left = λ e. (let s = same_index k before len q before m left (omega arith) some hq hl e in omega (arith, s.1)) in
+        let not_right : entry_index k before len q ≢ entry_index k (before + m) (len - m) right = λ e. (let s = same_index k before len q (before + m) (len - m) right (omega arith) (omega arith) hq hr e in omega (arith, s.1)) in
+        let right_kept : entry_of o.barred k outside2 q before len ≡ entry_of o.barred k outside1 q before len = rw e2 (get_or-set_other outside1 (entry_index k (before + m) (len - m) right) (entry_index k before len q) y o.barred not_right) in
+        let left_kept : entry_of o.barred k outside1 q before len ≡ entry_of o.barred k outside q before len = rw e1 (get_or-set_other outside (entry_index k before m left) (entry_index k before len q) x o.barred not_left) in
+        right_kept ∙ left_kept

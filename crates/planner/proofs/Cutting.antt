@@ -1,5 +1,5 @@
 -- The strokes of a sheet that some rule cuts within the limit.
-use Rattle.std.proofs.Common.{◌≡◌, ℕ, ◌+◌, ◌-◌, ◌*◌, ◌<◌, ◌≤◌, ◌↔◌, Bool, true, false, cond, not, ◌&&◌, IsTrue, List, length, sym, ap, ◌∙◌, inl, inr, arith, below_more}
+use Rattle.std.proofs.Common.{◌≡◌, ℕ, ◌+◌, ◌-◌, ◌*◌, ◌<◌, ◌≤◌, ◌↔◌, Bool, true, false, cond, not, ◌&&◌, IsTrue, List, length, sym, ap, ◌∙◌, inl, inr, arith, slice_index_or, slice_set, get_or-set_other, get_or-set_same}
 use Rattle.std.proofs.lemmas.Bool.{both_ways, cases_lt, cases_eq}
 use Rattle.std.proofs.lemmas.Bool.Decides.{nat_tests}
 use Rattle.scale.specs.Ops.{Ops}
@@ -7,7 +7,7 @@ use Rattle.book.specs.declared.rules.RightSide.TheVariants.{Cut}
 use Rattle.book.specs.declared.rules.Rule.{Rule}
 use Rattle.sheet.specs.Pairs.{Pairs, closed_at}
 use Rattle.derivations.specs.Support.{CutWithin}
-use Rattle.derivations.specs.Trees.{Makes, Weights}
+use Rattle.derivations.specs.Trees.{Makes, Weights, stroke_of}
 use Rattle.planner.specs.Counts.{count_strokes, count_pairs}
 use Rattle.planner.proofs.Counting.{strokes_few, strokes_same, strokes_more, pairs_few, pairs_same, pairs_more}
 
@@ -15,14 +15,43 @@ use Rattle.planner.proofs.Counting.{strokes_few, strokes_same, strokes_more, pai
 abbrev pub CutBy : {S : Type 0} → Ops S → Weights S → List Rule → (ℕ → S) → ℕ → ℕ → S → ℕ → Type 0
 CutBy o W rules out before c limit r = (part : ℕ) × Makes rules r part (Cut c) × (o.le (o.join (out part) (W r (before + 1) 1)) limit ≡ true)
 
-module _ {S : Type 0} (o : Ops S) (W : Weights S) (rules : List Rule) (out : ℕ → S) (before c : ℕ) (limit : S) where
-  -- no rule before index r does, nor the one there
-  pub none_more : (r : ℕ) → ((j : ℕ) → j < r → CutBy o W rules out before c limit j → ⊥) → (CutBy o W rules out before c limit r → ⊥) → (j : ℕ) → j < r + 1 → CutBy o W rules out before c limit j → ⊥
-  none_more r none last = below_more (λ j. CutBy o W rules out before c limit j → ⊥) r none last
+module _ {S : Type 0} (o : Ops S) (W : Weights S) (rules : List Rule) (out : ℕ → S) (before : ℕ) (limit : S) where
+  -- the table has the bytes of the strokes that some rule before index r cuts so, and no others
+  abbrev pub Seen : List Bool → ℕ → Type 0
+  Seen table r =
+      (c : ℕ) → c < 256 → (slice_index_or table c false ≡ true) ↔ ((j : ℕ) × (j < r) × CutBy o W rules out before c limit j)
 
-  -- no rule does
-  pub none_cuts : (shown : Pairs) (r : ℕ) → length rules ≤ r → ((j : ℕ) → j < r → CutBy o W rules out before c limit j → ⊥) → CutWithin o W rules shown out before c limit → ⊥
-  none_cuts shown r all none w = none w.rule (omega (arith, w.cuts.listed)) (w.part, w.cuts, w.within)
+  pub seen_none : (table : List Bool) → ((c : ℕ) → c < 256 → slice_index_or table c false ≡ false) → Seen table 0
+  seen_none table none c low = ((λ t. absurd (both_ways _ (none c low) t)), (λ w. absurd (omega (arith, w.1))))
+
+  -- the rule at index r cuts no stroke so
+  pub seen_same : (table : List Bool) (r : ℕ) → ((c : ℕ) → CutBy o W rules out before c limit r → ⊥) → Seen table r → Seen table (r + 1)
+  seen_same table r none seen c low = (
+    (λ t. let w = (seen c low).0 t in (w.0, omega (arith, w.1), w.2)),
+    (λ w. elim (cases_lt w.0 r) [
+      | inl less ↦ (seen c low).1 (w.0, less, w.2)
+      | inr more ↦ let e : w.0 ≡ r = omega (arith, w.1) in absurd (none c (rw e at w.2))
+    ]),
+  )
+
+  -- or it cuts the stroke s
+  pub seen_more : (table : List Bool) (r s : ℕ) → length table ≡ 256 → s < 256 → CutBy o W rules out before s limit r → Seen table r → Seen (slice_set table s true) (r + 1)
+  seen_more table r s long byte cuts seen c low = elim (cases_eq c s) [
+    | inl e ↦
+        rw e ((λ t. (r, omega arith, cuts)), (λ w. get_or-set_same table s true false (omega (arith, long))))
+    | inr ne ↦
+        let other = get_or-set_other table s c true false ne in (
+          (λ t. let w = (seen c low).0 (sym other ∙ t) in (w.0, omega (arith, w.1), w.2)),
+          (λ w. other ∙ elim (cases_lt w.0 r) [
+            | inl less ↦ (seen c low).1 (w.0, less, w.2)
+            | inr more ↦
+                let at : w.0 ≡ r = omega (arith, w.1) in
+                let here : CutBy o W rules out before c limit r = rw at at w.2 in
+                let same : Cut c ≡ Cut s = sym here.1.by_side ∙ cuts.1.by_side in
+                absurd (ne (ap stroke_of same))
+          ]),
+        )
+  ]
 
 -- the strokes of the place after the first `before` that f has and g has not
 abbrev pub gone : Pairs → ℕ → Pairs → ℕ → Bool

@@ -1,10 +1,10 @@
 -- The tree that a board of choices names, step by step, and the run that is written from it.
-use Rattle.std.proofs.Common.{◌≡◌, ℕ, suc, ◌+◌, ◌-◌, ◌/◌, ◌%◌, ◌<◌, ◌≤◌, List, [], ◌∷◌, ◌++◌, length, drop, slice_set, sym, refl, ap, ◌∙◌, arith}
+use Rattle.std.proofs.Common.{All, ◌≡◌, ℕ, suc, ◌+◌, ◌-◌, ◌/◌, ◌%◌, ◌<◌, ◌≤◌, List, [], ◌∷◌, ◌++◌, length, drop, slice_set, sym, refl, ap, ◌∙◌, arith}
 use Rattle.std.proofs.lemmas.Nat.{div-mul-add, mod-mul-add}
 use Rattle.std.proofs.lemmas.List.Edits.{sets, sets-eq}
 use Rattle.book.specs.declared.rules.RightSide.TheVariants.{Cut, Pair}
 use Rattle.book.specs.declared.rules.Rule.{Rule}
-use Rattle.book.specs.Ranges.{AllInRange}
+use Rattle.book.specs.Ranges.{InRange}
 use Rattle.derivations.specs.Trees.{Tree, cut, pair, width, rule_at, blank, strokes, stroke_of}
 use Rattle.derivations.specs.Ties.{first_rule, split}
 use Rattle.derivations.proofs.Deriving.{width_some, length_strokes, left_of, right_of}
@@ -13,7 +13,7 @@ use Rattle.planner.specs.Codes.{code_of, Follows}
 use Rattle.planner.specs.Writing.{written_at}
 use Rattle.planner.proofs.Naming.{halves_within}
 
-code_parts : (m r : ℕ) → r < 128 → (code_of m r / 128 ≡ m) × (code_of m r % 128 ≡ r)
+pub code_parts : (m r : ℕ) → r < 128 → (code_of m r / 128 ≡ m) × (code_of m r % 128 ≡ r)
 code_parts m r low = (div-mul-add m 128 r low, mod-mul-add m 128 r low)
 
 -- the two halves of a tree that is split after m places
@@ -50,7 +50,7 @@ module _ (rules : List Rule) (codes : List ℕ) (k part before len code : ℕ) (
       let e : Cut stroke ≡ Pair f.2 f.3 = sym side ∙ f.4.by_side in
       cc
 
-  pub follows_pair : (left right : ℕ) → AllInRange k rules → (rule_at rules (code % 128)).side ≡ Pair left right → (t : Tree) → Follows rules codes k part before len t → Halves rules codes k left right before len (code / 128) t
+  pub follows_pair : (left right : ℕ) → All (InRange k) rules → (rule_at rules (code % 128)).side ≡ Pair left right → (t : Tree) → Follows rules codes k part before len t → Halves rules codes k left right before len (code / 128) t
   follows_pair left right ranged is (cut r) f =
       let side : (rule_at rules r).side ≡ Pair left right = rw (follows_code (cut r) f).1 at is in
       let e : Pair left right ≡ Cut f.2 = sym side ∙ f.3.by_side in

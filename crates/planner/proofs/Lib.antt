@@ -7,6 +7,7 @@ pub mod Keeping
 pub mod Drawing
 pub mod Following
 pub mod Picking
+pub mod Separating
 pub mod Tracing
 pub mod Naming
 pub mod Pushing

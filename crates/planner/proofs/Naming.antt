@@ -1,6 +1,6 @@
 -- The parts that the rules of a book name are parts of it.
-use Rattle.std.proofs.Common.{◌≡◌, ℕ, ◌<◌, List, length, arith}
-use Rattle.book.specs.Ranges.{AllInRange, highest}
+use Rattle.std.proofs.Common.{All, ◌≡◌, ℕ, ◌<◌, List, length, arith}
+use Rattle.book.specs.Ranges.{InRange, highest}
 use Rattle.book.specs.declared.rules.RightSide.{RightSide}
 use Rattle.book.specs.declared.rules.RightSide.TheVariants.{Cut, Pair}
 use Rattle.book.specs.declared.rules.Rule.{Rule}
@@ -13,7 +13,7 @@ part_within k part (Pair left right) h = omega arith
 pub halves_within : (k part left right : ℕ) (side : RightSide) → side ≡ Pair left right → highest part side < k → (left < k) × (right < k)
 halves_within k part left right side is h = let m : highest part (Pair left right) < k = rw is at h in (omega arith, omega arith)
 
-module _ (k : ℕ) (rules : List Rule) (r : ℕ) (ranged : AllInRange k rules) where
+module _ (k : ℕ) (rules : List Rule) (r : ℕ) (ranged : All (InRange k) rules) where
   pub part_named : r < length rules → (rule_at rules r).part < k
   part_named listed = part_within k (rule_at rules r).part (rule_at rules r).side (ranged r blank listed).0
 

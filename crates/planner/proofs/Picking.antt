@@ -1,5 +1,5 @@
--- The first split and rule that attain the least weight, and the codes that are written of them.
-use Rattle.std.proofs.Common.{◌≡◌, ℕ, ◌+◌, ◌*◌, ◌<◌, ◌≤◌, true, false, if◌then◌else◌, ◌==◌, ◌≢◌, List, length, slice_set, sym, refl, ◌∙◌, inl, inr, arith, get_or-set_other, get_or-set_same}
+-- The first split and rule that attain the least weight.
+use Rattle.std.proofs.Common.{◌≡◌, ℕ, ◌+◌, ◌≤◌, true, false, if◌then◌else◌, ◌==◌, List, length, sym, refl, ◌∙◌, inl, inr, arith}
 use Rattle.std.proofs.lemmas.Bool.{both_ways, cases_lt, cases_order}
 use Rattle.scale.specs.Ops.{Ops, Laws}
 use Rattle.book.specs.declared.rules.Rule.{Rule}
@@ -9,10 +9,10 @@ use Rattle.derivations.specs.Trees.{Tree, rule_at, Weights, weight}
 use Rattle.derivations.specs.Costs.{DerivesOver, LeastOver}
 use Rattle.derivations.specs.Ties.{first_rule, split, NotAfter}
 use Rattle.derivations.proofs.Deriving.{derives_listed, derives_part, derives_split}
-use Rattle.planner.specs.Boards.{span_number, entry_index, entry_of}
+use Rattle.planner.specs.Boards.{span_number}
 use Rattle.planner.specs.Charts.{Filled, Inside, DerivesBy, Seen}
-use Rattle.planner.specs.Codes.{code_of, Picked, Coded, CodedUpTo}
-use Rattle.planner.proofs.Indexing.{number_within, number_back, same_span, index_below, index_in_span}
+use Rattle.planner.specs.Codes.{code_of, Picked}
+use Rattle.planner.proofs.Indexing.{number_within, number_back}
 use Rattle.planner.proofs.Filling.{seen_next, none_shorter}
 
 -- none of the derivations that have been seen is as cheap as the least
@@ -85,28 +85,3 @@ module _ {S : Type 0} (o : Ops S) (W : Weights S) (rules : List Rule) (shown : P
   pub inside_filled : (n before len : ℕ) → 1 ≤ len → before + len ≤ n → Inside o W rules n shown k board → Filled o W rules shown k board (span_number before len)
   inside_filled n before len some few inside q b l hq hl less =
       inside q b l hq hl (number_back b l n hl (omega (arith, less, number_within before len n some few)))
-
-  -- a code that is written leaves those of the spans before
-  pub coded_put : (codes : List ℕ) (before len p code : ℕ) → Coded o W rules shown k board codes (span_number before len) → Coded o W rules shown k board (slice_set codes (entry_index k before len p) code) (span_number before len)
-  coded_put codes before len p code coded q b l hq hl less goes =
-      let other : entry_index k b l q ≢ entry_index k before len p = omega (arith, index_below k (span_number b l) (span_number before len) q hq less) in
-      rw (get_or-set_other codes (entry_index k before len p) (entry_index k b l q) code 0 other) (coded q b l hq hl less goes)
-
-  -- and comes after those of the parts before
-  pub coded_put_here : (codes : List ℕ) (before len p code : ℕ) → p < k → (span_number before len + 1) * k ≤ length codes → (o.le o.barred (entry_of o.barred k board p before len) ≡ false → Picked o W rules shown p before len code) → CodedUpTo o W rules shown k board codes before len p → CodedUpTo o W rules shown k board (slice_set codes (entry_index k before len p) code) before len (p + 1)
-  coded_put_here codes before len p code hp room picked coded q hq goes = elim (cases_lt q p) [
-    | inl lt ↦
-        let other : entry_index k before len q ≢ entry_index k before len p = omega arith in
-        rw (get_or-set_other codes (entry_index k before len p) (entry_index k before len q) code 0 other) (coded q lt goes)
-    | inr ge ↦
-        let same : q ≡ p = omega arith in
-        rw (same, get_or-set_same codes (entry_index k before len p) code 0 (index_in_span k before len p (length codes) hp room)) (picked (rw same at goes))
-  ]
-
-  pub coded_span : (codes : List ℕ) (before len p : ℕ) → 1 ≤ len → k ≤ p → Coded o W rules shown k board codes (span_number before len) → CodedUpTo o W rules shown k board codes before len p → Coded o W rules shown k board codes (span_number before len + 1)
-  coded_span codes before len p some all coded here q b l hq hl less goes = elim (cases_lt (span_number b l) (span_number before len)) [
-    | inl lt ↦ coded q b l hq hl lt goes
-    | inr ge ↦
-        let s = same_span b l before len hl some (omega arith) in
-        rw (s.0, s.1) (here q (omega arith) (rw (s.0, s.1) at goes))
-  ]

@@ -1,8 +1,8 @@
 -- The least weight around a part, from those around the larger spans that it stands in.
-use Rattle.std.proofs.Common.{◌≡◌, ℕ, ◌+◌, ◌-◌, ◌<◌, ◌≤◌, true, ◌⊎◌, List, sym, refl, ap, ◌∙◌, subst, inl, inr, arith}
+use Rattle.std.proofs.Common.{All, ◌≡◌, ℕ, ◌+◌, ◌-◌, ◌<◌, ◌≤◌, true, ◌⊎◌, List, sym, refl, ap, ◌∙◌, subst, inl, inr, arith}
 use mathlib.Core.Path.{subst₃}
 use Rattle.scale.specs.Ops.{Ops, Laws}
-use Rattle.book.specs.Ranges.{AllInRange}
+use Rattle.book.specs.Ranges.{InRange}
 use Rattle.book.specs.declared.rules.RightSide.TheVariants.{Pair}
 use Rattle.book.specs.declared.rules.Rule.{Rule}
 use Rattle.sheet.specs.Pairs.{Pairs}
@@ -16,7 +16,7 @@ use Rattle.derivations.proofs.Plugging.{enclosed_within}
 use Rattle.planner.specs.Pushes.{Push, to_left, to_right, Lowers, pushed}
 use Rattle.planner.proofs.Naming.{pair_named}
 
-module _ {S : Type 0} {o : Ops S} (laws : Laws o) (W : Weights S) (rules : List Rule) (shown : Pairs) (n k : ℕ) (ins out : ℕ → ℕ → ℕ → S) (ranged : AllInRange k rules) (inside : (part before len : ℕ) → part < k → 1 ≤ len → before + len ≤ n → LeastOver o W rules shown part before len (ins part before len)) where
+module _ {S : Type 0} {o : Ops S} (laws : Laws o) (W : Weights S) (rules : List Rule) (shown : Pairs) (n k : ℕ) (ins out : ℕ → ℕ → ℕ → S) (ranged : All (InRange k) rules) (inside : (part before len : ℕ) → part < k → 1 ≤ len → before + len ≤ n → LeastOver o W rules shown part before len (ins part before len)) where
   -- what is pushed is what some context weighs, if it is not barred
   abbrev Reaches : (part before len : ℕ) → S → Type 0
   Reaches part before len c = (c ≡ o.barred) ⊎ ((a : Context) × Encloses rules shown n part before len a × (around o W before len a ≡ c))

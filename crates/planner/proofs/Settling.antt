@@ -1,9 +1,9 @@
 -- An outside chart before the first push and after the last.
-use Rattle.std.proofs.Common.{◌≡◌, ℕ, zero, suc, ◌+◌, ◌-◌, ◌*◌, ◌<◌, ◌≤◌, cond, eqb, ◌⊎◌, List, length, slice_index_or, slice_set, sym, refl, ap, ◌∙◌, subst, inl, inr, arith, length-set, get_or-set_other, get_or-set_same}
+use Rattle.std.proofs.Common.{All, ◌≡◌, ℕ, zero, suc, ◌+◌, ◌-◌, ◌*◌, ◌<◌, ◌≤◌, cond, eqb, ◌⊎◌, List, length, slice_index_or, slice_set, sym, refl, ap, ◌∙◌, subst, inl, inr, arith, length-set, get_or-set_other, get_or-set_same}
 use mathlib.Core.Path.{subst₃}
 use Rattle.std.proofs.lemmas.Bool.{cases_lt, cases_eq, eq-eqb, ne_eqb}
 use Rattle.scale.specs.Ops.{Ops, Laws}
-use Rattle.book.specs.Ranges.{AllInRange}
+use Rattle.book.specs.Ranges.{InRange}
 use Rattle.book.specs.declared.rules.Rule.{Rule}
 use Rattle.sheet.specs.Pairs.{Pairs}
 use Rattle.derivations.specs.Least.{LeastOf}
@@ -45,7 +45,7 @@ module _ {S : Type 0} {o : Ops S} (laws : Laws o) (W : Weights S) (rules : List 
     }
 
   -- when all pushes are done, each entry is the least weight around its part
-  module _ (shown : Pairs) (outside : List S) (ranged : AllInRange k rules) (least : Inside o W rules n shown k inside) (d : PushedDown o W rules n k inside outside (FromSpan 0)) where
+  module _ (shown : Pairs) (outside : List S) (ranged : All (InRange k) rules) (least : Inside o W rules n shown k inside) (d : PushedDown o W rules n k inside outside (FromSpan 0)) where
     whole_entry : (p : ℕ) → p < k → (p ≡ 0) ⊎ (p ≡ 0 → ⊥) → LeastAround o W rules shown n p 0 n (entry_of o.barred k outside p 0 n)
     whole_entry p hp (inl e) =
         let value : entry_of o.barred k outside p 0 n ≡ o.free = d.top p hp ∙ ap (λ t. cond t o.free o.barred) (eq-eqb p 0 e) in

@@ -1,24 +1,23 @@
--- The board of choices names the derivation that the tie rule takes.
-use Rattle.std.proofs.Common.{◌≡◌, ℕ, zero, suc, ◌+◌, ◌<◌, ◌≤◌, true, false, List, ◌++◌, length, drop, refl, ◌∙◌, inl, inr, arith}
+-- The codes that are chosen name the derivation that the tie rule takes.
+use Rattle.std.proofs.Common.{All, ◌≡◌, ℕ, ◌+◌, ◌-◌, ◌/◌, ◌%◌, ◌<◌, ◌≤◌, true, false, List, ◌++◌, length, drop, sym, refl, ap, ◌∙◌, inl, inr, arith}
 use Rattle.std.proofs.lemmas.Bool.{both_ways, false_from_ne_true}
 use Rattle.scale.specs.Ops.{Ops, Laws}
-use Rattle.book.specs.Ranges.{AllInRange}
-use Rattle.book.specs.declared.rules.RightSide.TheVariants.{Pair}
+use Rattle.book.specs.Ranges.{InRange}
+use Rattle.book.specs.declared.rules.RightSide.TheVariants.{Cut, Pair}
 use Rattle.book.specs.declared.rules.Rule.{Rule}
 use Rattle.sheet.specs.Pairs.{Pairs}
 use Rattle.derivations.specs.Trees.{Tree, cut, pair, width, rule_at, blank, Makes, strokes, Weights, weight}
-use Rattle.derivations.specs.Costs.{DerivesOver, LeastOver}
+use Rattle.derivations.specs.Costs.{DerivesOver}
 use Rattle.derivations.specs.Ties.{first_rule, split, NotAfter, Best, Chosen}
-use Rattle.derivations.proofs.Minima.{le_join, absorbs_right, least_unique}
-use Rattle.derivations.proofs.Deriving.{width_some, length_strokes, derives_size}
+use Rattle.derivations.proofs.Minima.{le_join, absorbs_right}
+use Rattle.derivations.proofs.Deriving.{width_some, length_strokes, derives_size, left_of, right_of}
 use Rattle.derivations.proofs.Choosing.{chosen_best, best_weighs}
-use Rattle.planner.specs.Boards.{spans_before, entry_of}
+use Rattle.planner.specs.Boards.{entry_of}
 use Rattle.planner.specs.Charts.{Inside}
-use Rattle.planner.specs.Codes.{code_of, Coded, Follows}
+use Rattle.planner.specs.Codes.{code_of, Follows, NamesChosen, Picked}
 use Rattle.planner.specs.Writing.{written_at}
-use Rattle.planner.proofs.Indexing.{number_within}
 use Rattle.planner.proofs.Naming.{halves_within}
-use Rattle.planner.proofs.Following.{written_first}
+use Rattle.planner.proofs.Following.{code_parts, written_first}
 
 module _ {S : Type 0} {o : Ops S} (laws : Laws o) where
   -- what is joined is barred only where the whole is
@@ -54,12 +53,9 @@ module _ {S : Type 0} {o : Ops S} (laws : Laws o) where
         let long : length (strokes rules t) ≡ n = length_strokes rules t ∙ derives_size rules shown 0 0 n t leads.derives in
         rw none at written ∙ rw long at (written_first xs (strokes rules t) (omega (arith, long)))
 
-    module _ (k n : ℕ) (board : List S) (codes : List ℕ) (inside : Inside o W rules n shown k board) (coded : Coded o W rules shown k board codes (spans_before n)) (ranged : AllInRange k rules) where
-      abbrev Found : ℕ → ℕ → ℕ → Type 0
-      Found part before len = (t : Tree) × Follows rules codes k part before len t × Chosen o W rules shown part before len t
-
+    module _ (k : ℕ) (codes : List ℕ) where
       -- with the halves that the codes name, for those of a derivation that leads
-      found_pair : (part before len r left right : ℕ) (a b : Tree) → Best o W rules shown part before len (pair r a b) → entry_of 0 k codes part before len ≡ code_of (width a) r → len ≡ width a + width b → Makes rules r part (Pair left right) → DerivesOver rules shown left before (width a) a → DerivesOver rules shown right (before + width a) (width b) b → Found left before (width a) → Found right (before + width a) (width b) → Found part before len
+      found_pair : (part before len r left right : ℕ) (a b : Tree) → Best o W rules shown part before len (pair r a b) → entry_of 0 k codes part before len ≡ code_of (width a) r → len ≡ width a + width b → Makes rules r part (Pair left right) → DerivesOver rules shown left before (width a) a → DerivesOver rules shown right (before + width a) (width b) b → NamesChosen o W rules shown k codes left before (width a) → NamesChosen o W rules shown k codes right (before + width a) (width b) → NamesChosen o W rules shown k codes part before len
       found_pair part before len r left right a b leads code size makes da db fa fb =
           let x = fa.0 in
           let y = fb.0 in
@@ -79,37 +75,85 @@ module _ {S : Type 0} {o : Ops S} (laws : Laws o) where
           let cy : Chosen o W rules shown right (before + width x) (width y) y = rw (wx, wy) fb.2 in
           (pair r x y, (whole, named, left, right, makes, fx, fy), (moved, left, right, makes, cx, cy))
 
-      abbrev Goes : ℕ → ℕ → ℕ → Type 0
-      Goes part before len = o.le o.barred (entry_of o.barred k board part before len) ≡ false
+    -- the halves of a best derivation whose first rule pairs two parts
+    pub record BestHalves (k : ℕ) (board : List S) (part before len code left right m : ℕ) : Type 0 where
+      pub rule : ℕ
+      pub a : Tree
+      pub b : Tree
+      pub best : Best o W rules shown part before len (pair rule a b)
+      pub coded : code ≡ code_of (width a) rule
+      pub size : len ≡ width a + width b
+      pub makes : Makes rules rule part (Pair left right)
+      pub over_left : DerivesOver rules shown left before (width a) a
+      pub over_right : DerivesOver rules shown right (before + width a) (width b) b
+      pub wide : width a ≡ m
+      pub rest : width b ≡ len - m
+      pub some : 1 ≤ m
+      pub fewer : m < len
+      pub part_left : left < k
+      pub part_right : right < k
+      pub lawful_left : o.le o.barred (entry_of o.barred k board left before m) ≡ false
+      pub lawful_right : o.le o.barred (entry_of o.barred k board right (before + m) (len - m)) ≡ false
 
-      found_by : (fuel part before len : ℕ) → ((q j e : ℕ) → e ≤ fuel → q < k → 1 ≤ e → j + e ≤ n → Goes q j e → Found q j e) → len ≤ suc fuel → part < k → 1 ≤ len → before + len ≤ n → Goes part before len → (t : Tree) → Best o W rules shown part before len t → entry_of 0 k codes part before len ≡ code_of (split t) (first_rule t) → Found part before len
-      found_by fuel part before len more low hp some few goes (cut r) leads code =
+    module _ (k n : ℕ) (board : List S) (inside : Inside o W rules n shown k board) (ranged : All (InRange k) rules) (short : length rules ≤ 128) (part before len code : ℕ) where
+      pub best_halves : (left right : ℕ) → part < k → 1 ≤ len → before + len ≤ n → o.le o.barred (entry_of o.barred k board part before len) ≡ false → Picked o W rules shown part before len code → (rule_at rules (code % 128)).side ≡ Pair left right → BestHalves k board part before len code left right (code / 128)
+      best_halves left right hp some few goes (cut r, leads, is) side =
           let d = leads.derives in
-          (cut r, (d.0, omega (arith, code), d.1, d.2), leads)
-      found_by fuel part before len more low hp some few goes (pair r a b) leads code =
+          let listed : r < length rules = d.2.listed in
+          let c = code_parts 0 r (omega arith) in
+          let at : code % 128 ≡ r = ap (λ x. x % 128) is ∙ c.1 in
+          let e : Pair left right ≡ Cut d.1 = sym (rw at at side) ∙ d.2.by_side in
+          cc
+      best_halves left right hp some few goes (pair r a b, leads, is) side =
           let d = leads.derives in
-          let left = d.1 in
-          let right = d.2 in
-          let parts = halves_within k (rule_at rules r).part left right (rule_at rules r).side d.3.by_side (ranged r blank d.3.listed).0 in
+          let c = code_parts (width a) r (omega (arith, d.3.listed)) in
+          let at : code % 128 ≡ r = ap (λ x. x % 128) is ∙ c.1 in
+          let w : code / 128 ≡ width a = ap (λ x. x / 128) is ∙ c.0 in
+          let e : Pair d.1 d.2 ≡ Pair left right = sym d.3.by_side ∙ rw at at side in
+          let to_left : d.1 ≡ left = ap left_of e in
+          let to_right : d.2 ≡ right = ap right_of e in
+          let parts = halves_within k (rule_at rules r).part d.1 d.2 (rule_at rules r).side d.3.by_side (ranged r blank d.3.listed).0 in
           let sa = width_some a in
           let sb = width_some b in
           let weighs = best_weighs laws W rules shown part before len (pair r a b) _ leads (inside part before len hp some few) in
           let halves = open_halves _ (weight o W before a) (weight o W (before + width a) b) (rw (← weighs) at goes) in
           let end : before + width a + width b ≤ n = omega (arith, d.0) in
-          let goes_left = open_below _ _ ((inside left before (width a) parts.0 sa (omega (arith, end))).below a d.4) halves.0 in
-          let goes_right = open_below _ _ ((inside right (before + width a) (width b) parts.1 sb end).below b d.5) halves.1 in
-          let found_left = more left before (width a) (omega (arith, d.0)) parts.0 sa (omega (arith, end)) goes_left in
-          let found_right = more right (before + width a) (width b) (omega (arith, d.0)) parts.1 sb end goes_right in
-          found_pair part before len r left right a b leads code d.0 d.3 d.4 d.5 found_left found_right
+          let goes_left = open_below _ _ ((inside d.1 before (width a) parts.0 sa (omega (arith, end))).below a d.4) halves.0 in
+          let goes_right = open_below _ _ ((inside d.2 (before + width a) (width b) parts.1 sb end).below b d.5) halves.1 in
+          let others : len - width a ≡ width b = omega (arith, d.0) in
+          record {
+            rule = r;
+            a = a;
+            b = b;
+            best = leads;
+            coded = is;
+            size = d.0;
+            makes = rw (← to_left, ← to_right) d.3;
+            over_left = rw (← to_left) d.4;
+            over_right = rw (← to_right) d.5;
+            wide = sym w;
+            rest = rw w (sym others);
+            some = omega (arith, w, sa);
+            fewer = omega (arith, w, sb, d.0);
+            part_left = rw (← to_left) parts.0;
+            part_right = rw (← to_right) parts.1;
+            lawful_left = rw (← to_left, w) goes_left;
+            lawful_right = rw (← to_right, w, others) goes_right;
+          }
 
-      found : (fuel part before len : ℕ) → len ≤ fuel → part < k → 1 ≤ len → before + len ≤ n → Goes part before len → Found part before len
-      found zero part before len low hp some few goes = absurd (omega arith)
-      found (suc fuel) part before len low hp some few goes =
-          let picked = coded part before len hp some (number_within before len n some few) goes in
-          found_by fuel part before len (found fuel) low hp some few goes picked.0 picked.1 picked.2
+      -- the code of a cut
+      pub names_cut : (codes : List ℕ) (stroke : ℕ) → entry_of 0 k codes part before len ≡ code → Picked o W rules shown part before len code → (rule_at rules (code % 128)).side ≡ Cut stroke → NamesChosen o W rules shown k codes part before len
+      names_cut codes stroke at (cut r, leads, is) side =
+          let d = leads.derives in
+          (cut r, (d.0, omega (arith, at, is), d.1, d.2), leads)
+      names_cut codes stroke at (pair r a b, leads, is) side =
+          let d = leads.derives in
+          let c = code_parts (width a) r (omega (arith, d.3.listed)) in
+          let by : code % 128 ≡ r = ap (λ x. x % 128) is ∙ c.1 in
+          let e : Cut stroke ≡ Pair d.1 d.2 = sym (rw by at side) ∙ d.3.by_side in
+          cc
 
-      -- over the whole sheet, where its least weight is not barred
-      pub found_whole : (before len : ℕ) (c : S) → before ≡ 0 → len ≡ n → 1 ≤ k → 1 ≤ n → LeastOver o W rules shown 0 0 n c → o.le o.barred c ≡ false → (t : Tree) × Follows rules codes k 0 before len t × Chosen o W rules shown 0 0 n t
-      found_whole before len c none all hk some least goes =
-          let e = least_unique laws (DerivesOver rules shown 0 0 n) (weight o W 0) c _ least (inside 0 0 n hk some (omega arith)) in
-          rw (none, all) (found n 0 0 n (omega arith) hk some (omega arith) (rw e at goes))
+      -- and of a pair, where the codes name its halves
+      pub names_pair : (codes : List ℕ) (left right m : ℕ) → entry_of 0 k codes part before len ≡ code → (h : BestHalves k board part before len code left right m) → NamesChosen o W rules shown k codes left before m → NamesChosen o W rules shown k codes right (before + m) (len - m) → NamesChosen o W rules shown k codes part before len
+      names_pair codes left right m at h fa fb =
+          found_pair k codes part before len h.rule left right h.a h.b h.best (at ∙ h.coded) h.size h.makes h.over_left h.over_right (rw h.wide fa) (rw (h.wide, h.rest) fb)

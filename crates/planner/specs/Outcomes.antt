@@ -27,7 +27,9 @@ passed None = Ok tt
 -- the first test that the price of a run fails, with a book of k parts and a board with `room`
 abbrev pub price_refused : ℕ → List ℕ → ℕ → Option Refusal
 price_refused k run room =
-    if length run == 0 || nat_lt 24 (length run) then Some BadLength else (if not (list_all is_stroke run) then Some NotAStroke else (if nat_lt room (board_entries (length run) k) then Some BoardTooShort else None))
+    if length run == 0 || nat_lt 24 (length run) then Some BadLength else (
+    if not (list_all is_stroke run) then Some NotAStroke else (
+    if nat_lt room (board_entries (length run) k) then Some BoardTooShort else None))
 
 -- a cost, or refusal 10 where it is barred
 abbrev pub unless_barred : {S : Type 0} → Ops S → S → Result S Refusal
@@ -41,12 +43,17 @@ priced o rules None run = unless_barred o (cost o (prices o rules) rules run)
 -- the first test that a prune fails, of a sheet of n places, with a book of k parts and boards with `room`
 abbrev pub prune_refused : {S : Type 0} → Ops S → ℕ → ℕ → S → ℕ → ℕ → Option Refusal
 prune_refused o n k limit inside outside =
-    if n == 0 then Some BadLength else (if o.le o.barred limit then Some LimitBarred else (if nat_lt inside (board_entries n k) || nat_lt outside (board_entries n k) then Some BoardTooShort else None))
+    if n == 0 then Some BadLength else (
+    if o.le o.barred limit then Some LimitBarred else (
+    if nat_lt inside (board_entries n k) || nat_lt outside (board_entries n k) then Some BoardTooShort else None))
 
 -- the first test that a quote fails, where a run of so many bytes is lent besides
 abbrev pub quote_refused : {S : Type 0} → Ops S → ℕ → ℕ → S → ℕ → ℕ → ℕ → Option Refusal
 quote_refused o n k limit inside choices run =
-    if n == 0 then Some BadLength else (if o.le o.barred limit then Some LimitBarred else (if nat_lt inside (board_entries n k) || nat_lt choices (board_entries n k) then Some BoardTooShort else (if nat_lt run n then Some LentTooShort else None)))
+    if n == 0 then Some BadLength else (
+    if o.le o.barred limit then Some LimitBarred else (
+    if nat_lt inside (board_entries n k) || nat_lt choices (board_entries n k) then Some BoardTooShort else (
+    if nat_lt run n then Some LentTooShort else None)))
 
 -- an accepted prune leaves the open pairs `after`, and answers `least` and `closed`
 pub record PrunedTo {S : Type 0} (o : Ops S) (W : Weights S) (rules : List Rule) (n : ℕ) (before : Pairs) (limit : S) (after : Pairs) (least : S) (closed : ℕ) : Type 0 where
@@ -77,9 +84,15 @@ pub record QuotedAs {S : Type 0} (o : Ops S) (W : Weights S) (rules : List Rule)
 -- a prune ends in one way
 abbrev pub OnePruned : {S : Type 0} → Ops S → Type 0
 OnePruned {S} o =
-    (W : Weights S) (rules : List Rule) (n : ℕ) (before : Pairs) (limit : S) (after after' : Pairs) (least least' : S) (closed closed' : ℕ) → PrunedTo o W rules n before limit after least closed → PrunedTo o W rules n before limit after' least' closed' → (after ≡ after') × (least ≡ least') × (closed ≡ closed')
+    (W : Weights S) (rules : List Rule) (n : ℕ) (before : Pairs) (limit : S) (after after' : Pairs) (least least' : S) (closed closed' : ℕ)
+    → PrunedTo o W rules n before limit after least closed
+    → PrunedTo o W rules n before limit after' least' closed'
+    → (after ≡ after') × (least ≡ least') × (closed ≡ closed')
 
 -- a quote ends in one way
 abbrev pub OneQuoted : {S : Type 0} → Ops S → Type 0
 OneQuoted {S} o =
-    (W : Weights S) (rules : List Rule) (n : ℕ) (shown : Pairs) (limit : S) (lent written written' : List ℕ) (price price' : S) → QuotedAs o W rules n shown limit lent written price → QuotedAs o W rules n shown limit lent written' price' → (written ≡ written') × (price ≡ price')
+    (W : Weights S) (rules : List Rule) (n : ℕ) (shown : Pairs) (limit : S) (lent written written' : List ℕ) (price price' : S)
+    → QuotedAs o W rules n shown limit lent written price
+    → QuotedAs o W rules n shown limit lent written' price'
+    → (written ≡ written') × (price ≡ price')

@@ -1,31 +1,31 @@
-// The board of choices: for each part and span, the first split and rule that attain the least weight.
-ghost use Rattle.std.specs.Prelude.{◌≡◌, ◌+◌, ◌-◌, ◌*◌, ◌<◌, ◌≤◌, false, length};
-ghost use Rattle.planner.specs.Boards.{board_entries, entry_of, spans_before, span_number};
+// The board of choices: for each part and span of the derivation that the tie rule takes, the first split and rule that attain
+// the least weight.
+ghost use Rattle.std.specs.Prelude.{◌≡◌, ◌+◌, ◌<◌, ◌≤◌, false, length};
+ghost use Rattle.planner.specs.Boards.{board_entries, entry_of};
 ghost use Rattle.planner.specs.Charts.{Inside};
-ghost use Rattle.planner.specs.Codes.{Coded, Picked};
+ghost use Rattle.planner.specs.Codes.{NamesChosen, Picked, SameOutside};
 
 use crate::boards::{entry, put};
 use crate::prices::Prices;
 use crate::spans::Span;
 use crate::tasks::Task;
+use book::RightSide;
 use scale::Scale;
 use sheet::Sheet;
 
 impl<H: Sheet, W> Task<'_, H, W> {
     // The code of the lowest split, and of the first rule there, that attain the least weight of the part over the span.
-    fn choice<S: Scale>(&self, board: &[S], span: Span, part: u8) -> u32
+    fn choice<S: Scale>(self, board: &[S], span: Span, part: u8) -> u32
     where
         W: Prices<S>,
-        requires part { part < self.now.parts }
-        requires few { span.before + span.len ≤ H.places self.now.sheet.now }
-        requires room { board_entries (H.places self.now.sheet.now) self.now.parts ≤ length board.now }
-        requires inside { Inside S.ops (W.weights self.now.prices.now) self.now.rules.now (H.places self.now.sheet.now) (H.shown self.now.sheet.now) self.now.parts board.now }
-        ensures { S.ops.le S.ops.barred (entry_of S.ops.barred self.now.parts board.now part span.before span.len) ≡ false → Picked S.ops (W.weights self.now.prices.now) self.now.rules.now (H.shown self.now.sheet.now) part span.before span.len result }
+        requires part { part < self.parts }
+        requires few { span.before + span.len ≤ H.places self.sheet.now }
+        requires room { board_entries (H.places self.sheet.now) self.parts ≤ length board.now }
+        requires inside { Inside S.ops (W.weights self.prices.now self.rules.now) self.rules.now (H.places self.sheet.now) (H.shown self.sheet.now) self.parts board.now }
+        requires lawful { S.ops.le S.ops.barred (entry_of S.ops.barred self.parts board.now part span.before span.len) ≡ false }
+        ensures { Picked S.ops (W.weights self.entry.prices.now self.entry.rules.now) self.entry.rules.now (H.shown self.entry.sheet.now) part span.before span.len result }
     {
         let least = entry(board, self.parts, span, part);
-        if least.is_barred() {
-            return 0;
-        }
         let mut code = 0;
         'found: for split in span.first_split()..span.len {
             for rule in 0..self.rules.len() {
@@ -40,51 +40,29 @@ impl<H: Sheet, W> Task<'_, H, W> {
         code
     }
 
-    // Writes the codes of the span.
-    fn choose_in_span<S: Scale>(&self, board: &[S], codes: &mut [u32], span: Span)
+    // Writes the codes of the derivation that the tie rule takes: that of the part over the span, and then those of its two halves.
+    pub(crate) fn choose<S: Scale>(self, board: &[S], codes: &mut [u32], span: Span, part: u8)
     where
         W: Prices<S>,
-        requires few { span.before + span.len ≤ H.places self.now.sheet.now }
-        requires room { board_entries (H.places self.now.sheet.now) self.now.parts ≤ length board.now }
-        requires codes { (span_number span.before span.len + 1) * self.now.parts ≤ length codes.old }
-        requires inside { Inside S.ops (W.weights self.now.prices.now) self.now.rules.now (H.places self.now.sheet.now) (H.shown self.now.sheet.now) self.now.parts board.now }
-        requires coded { Coded S.ops (W.weights self.now.prices.now) self.now.rules.now (H.shown self.now.sheet.now) self.now.parts board.now codes.old (span_number span.before span.len) }
-        ensures { Coded S.ops (W.weights self.now.prices.now) self.now.rules.now (H.shown self.now.sheet.now) self.now.parts board.now codes.new (span_number span.before span.len + 1) }
+        requires part { part < self.parts }
+        requires few { span.before + span.len ≤ H.places self.sheet.now }
+        requires room { board_entries (H.places self.sheet.now) self.parts ≤ length board.now }
+        requires codes { board_entries (H.places self.sheet.now) self.parts ≤ length codes.old }
+        requires inside { Inside S.ops (W.weights self.prices.now self.rules.now) self.rules.now (H.places self.sheet.now) (H.shown self.sheet.now) self.parts board.now }
+        requires lawful { S.ops.le S.ops.barred (entry_of S.ops.barred self.parts board.now part span.before span.len) ≡ false }
+        ensures named { NamesChosen S.ops (W.weights self.entry.prices.now self.entry.rules.now) self.entry.rules.now (H.shown self.entry.sheet.now) self.entry.parts codes.new part span.before span.len }
+        ensures others { SameOutside self.entry.parts codes.old codes.new span.before span.len }
     {
-        for part in 0..self.parts {
-            let code = self.choice(board, span, part);
-            put(codes, self.parts, span, part, code);
-        }
-    }
-
-    // Writes the codes of the spans that end at the place.
-    fn choose_in_column<S: Scale>(&self, board: &[S], codes: &mut [u32], last: usize)
-    where
-        W: Prices<S>,
-        requires some { 1 ≤ last }
-        requires few { last ≤ H.places self.now.sheet.now }
-        requires room { board_entries (H.places self.now.sheet.now) self.now.parts ≤ length board.now }
-        requires codes { spans_before last * self.now.parts ≤ length codes.old }
-        requires inside { Inside S.ops (W.weights self.now.prices.now) self.now.rules.now (H.places self.now.sheet.now) (H.shown self.now.sheet.now) self.now.parts board.now }
-        requires coded { Coded S.ops (W.weights self.now.prices.now) self.now.rules.now (H.shown self.now.sheet.now) self.now.parts board.now codes.old (spans_before (last - 1)) }
-        ensures { Coded S.ops (W.weights self.now.prices.now) self.now.rules.now (H.shown self.now.sheet.now) self.now.parts board.now codes.new (spans_before last) }
-    {
-        for len in 1..last + 1 {
-            self.choose_in_span(board, codes, Span::new(last - len, len));
-        }
-    }
-
-    // Writes the board of choices, from an inside chart.
-    pub(crate) fn choose<S: Scale>(&self, board: &[S], codes: &mut [u32])
-    where
-        W: Prices<S>,
-        requires room { board_entries (H.places self.now.sheet.now) self.now.parts ≤ length board.now }
-        requires codes { board_entries (H.places self.now.sheet.now) self.now.parts ≤ length codes.old }
-        requires inside { Inside S.ops (W.weights self.now.prices.now) self.now.rules.now (H.places self.now.sheet.now) (H.shown self.now.sheet.now) self.now.parts board.now }
-        ensures { Coded S.ops (W.weights self.now.prices.now) self.now.rules.now (H.shown self.now.sheet.now) self.now.parts board.now codes.new (spans_before (H.places self.now.sheet.now)) }
-    {
-        for last in 1..self.sheet.length() + 1 {
-            self.choose_in_column(board, codes, last);
+        let code = self.choice(board, span, part);
+        put(codes, self.parts, span, part, code);
+        let side = self.rules[code as usize % 128].side;
+        match side {
+            RightSide::Cut { .. } => {}
+            RightSide::Pair { left, right } => {
+                let split = code as usize / 128;
+                self.choose(board, codes, span.left(split), left);
+                self.choose(board, codes, span.right(split), right);
+            }
         }
     }
 }

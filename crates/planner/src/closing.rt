@@ -1,6 +1,6 @@
 // Closing the strokes that no run within a limit has.
-ghost use Rattle.std.specs.Prelude.{◌≡◌, ◌+◌, ◌-◌, ◌<◌, ◌≤◌, ◌↔◌, ℕ, true, not, ◌&&◌, IsTrue, length};
-ghost use Rattle.book.specs.Ranges.{AllInRange};
+ghost use Rattle.std.specs.Prelude.{All, ◌≡◌, ◌+◌, ◌-◌, ◌<◌, ◌≤◌, ◌↔◌, ℕ, Some, false, true, not, ◌&&◌, IsTrue, length, slice_index_or};
+ghost use Rattle.book.specs.Ranges.{InRange};
 ghost use Rattle.book.specs.declared.rules.RightSide.TheVariants.{Cut};
 ghost use Rattle.sheet.specs.Pairs.{Pairs};
 ghost use Rattle.derivations.specs.Support.{CutWithin};
@@ -23,7 +23,7 @@ pub(crate) struct Support<'a, S, W> {
     pub prices: &'a W,
     pub outside: &'a [S],
     pub limit: S,
-    ghost ranged: { AllInRange parts rules.now },
+    ghost ranged: { All (InRange parts) rules.now },
 }
 
 impl<'a, S: Scale, W: Prices<S>> Support<'a, S, W> {
@@ -48,38 +48,44 @@ impl<'a, S: Scale, W: Prices<S>> Support<'a, S, W> {
         }
     }
 
-    // Whether the rule at the index cuts the stroke, at the place after the first `before`, and the cut with the least weight
-    // around it is within the limit.
-    fn cut_by(&self, rule: usize, before: usize, stroke: u8) -> bool
+    // The stroke that the rule at the index cuts, if, at the place after the first `before`, the cut with the least weight around
+    // it is within the limit.
+    fn cut_by(&self, rule: usize, before: usize) -> Option<u8>
         requires rule { rule < length self.now.rules.now }
         requires few { before < 24 }
         requires room { board_entries (before + 1) self.now.parts ≤ length self.now.outside.now }
-        ensures { IsTrue result ↔ ((part : ℕ) × Makes self.now.rules.now rule part (Cut stroke) × (S.ops.le (S.ops.join (entry_of S.ops.barred self.now.parts self.now.outside.now part before 1) (W.weights self.now.prices.now rule (before + 1) 1)) self.now.limit ≡ true)) }
+        ensures { (stroke : ℕ) → (result ≡ Some stroke) ↔ ((part : ℕ) × Makes self.now.rules.now rule part (Cut stroke) × (S.ops.le (S.ops.join (entry_of S.ops.barred self.now.parts self.now.outside.now part before 1) (W.weights self.now.prices.now self.now.rules.now rule (before + 1) 1)) self.now.limit ≡ true)) }
     {
-        let rule_part = self.rules[rule].part;
+        let part = self.rules[rule].part;
         match self.rules[rule].side {
-            RightSide::Cut { stroke: cut } if cut == stroke => {
-                let around = entry(self.outside, self.parts, Span::new(before, 1), rule_part);
-                around
-                    .join(self.prices.price_at(rule, before + 1, 1))
+            RightSide::Cut { stroke } => {
+                let around = entry(self.outside, self.parts, Span::new(before, 1), part);
+                if around
+                    .join(self.prices.price_at(self.rules, rule, before + 1, 1))
                     .at_most(self.limit)
+                {
+                    Some(stroke)
+                } else {
+                    None
+                }
             }
-            _ => false,
+            RightSide::Pair { .. } => None,
         }
     }
 
-    // Whether some rule does.
-    fn cut_within(&self, before: usize, stroke: u8) -> bool
+    // Which strokes some rule cuts so: whether it does, for each byte.
+    fn cuts_within(&self, before: usize) -> [bool; 256]
         requires few { before < 24 }
         requires room { board_entries (before + 1) self.now.parts ≤ length self.now.outside.now }
-        ensures { (shown : Pairs) → shown (before + 1) stroke ≡ true → (IsTrue result ↔ CutWithin S.ops (W.weights self.now.prices.now) self.now.rules.now shown (λ part. entry_of S.ops.barred self.now.parts self.now.outside.now part before 1) before stroke self.now.limit) }
+        ensures { (shown : Pairs) (stroke : ℕ) → stroke < 256 → shown (before + 1) stroke ≡ true → (IsTrue (slice_index_or result stroke false) ↔ CutWithin S.ops (W.weights self.now.prices.now self.now.rules.now) self.now.rules.now shown (λ part. entry_of S.ops.barred self.now.parts self.now.outside.now part before 1) before stroke self.now.limit) }
     {
+        let mut within = [false; 256];
         for rule in 0..self.rules.len() {
-            if self.cut_by(rule, before, stroke) {
-                return true;
+            if let Some(stroke) = self.cut_by(rule, before) {
+                within[usize::from(stroke)] = true;
             }
         }
-        false
+        within
     }
 
     // Closes the strokes of a place whose every cut, with the least weight around it, is above the limit. Answers how many it
@@ -88,13 +94,15 @@ impl<'a, S: Scale, W: Prices<S>> Support<'a, S, W> {
         requires few { before < H.places sheet.old }
         requires room { board_entries (H.places sheet.old) self.now.parts ≤ length self.now.outside.now }
         ensures others { (p c : ℕ) → (p ≡ before + 1 → ⊥) → H.shown sheet.new p c ≡ H.shown sheet.old p c }
-        ensures left { (c : ℕ) → (H.shown sheet.new (before + 1) c ≡ true) ↔ CutWithin S.ops (W.weights self.now.prices.now) self.now.rules.now (H.shown sheet.old) (λ part. entry_of S.ops.barred self.now.parts self.now.outside.now part before 1) before c self.now.limit }
+        ensures left { (c : ℕ) → (H.shown sheet.new (before + 1) c ≡ true) ↔ CutWithin S.ops (W.weights self.now.prices.now self.now.rules.now) self.now.rules.now (H.shown sheet.old) (λ part. entry_of S.ops.barred self.now.parts self.now.outside.now part before 1) before c self.now.limit }
         ensures count { result ≡ count_strokes (λ c. H.shown sheet.old (before + 1) c && not (H.shown sheet.new (before + 1) c)) 26 }
         ensures memory { H.kept sheet.old sheet.new }
     {
+        let within = self.cuts_within(before);
         let mut closed = 0;
         for stroke in b'A'..=b'Z' {
-            if !self.cut_within(before, stroke) && sheet.close(before + 1, stroke) {
+            let cut = within[usize::from(stroke)];
+            if !cut && sheet.close(before + 1, stroke) {
                 closed += 1;
             }
         }
@@ -104,7 +112,7 @@ impl<'a, S: Scale, W: Prices<S>> Support<'a, S, W> {
     // The same for each place of a sheet.
     pub(crate) fn close_all<H: Sheet>(&self, sheet: &mut H) -> usize
         requires { board_entries (H.places sheet.old) self.now.parts ≤ length self.now.outside.now }
-        ensures left { (before c : ℕ) → before < H.places sheet.old → ((H.shown sheet.new (before + 1) c ≡ true) ↔ CutWithin S.ops (W.weights self.now.prices.now) self.now.rules.now (H.shown sheet.old) (λ part. entry_of S.ops.barred self.now.parts self.now.outside.now part before 1) before c self.now.limit) }
+        ensures left { (before c : ℕ) → before < H.places sheet.old → ((H.shown sheet.new (before + 1) c ≡ true) ↔ CutWithin S.ops (W.weights self.now.prices.now self.now.rules.now) self.now.rules.now (H.shown sheet.old) (λ part. entry_of S.ops.barred self.now.parts self.now.outside.now part before 1) before c self.now.limit) }
         ensures count { result ≡ count_pairs (H.places sheet.old) (λ p c. H.shown sheet.old p c && not (H.shown sheet.new p c)) }
         ensures memory { H.kept sheet.old sheet.new }
     {

@@ -15,6 +15,7 @@ mod spans;
 mod tasks;
 mod trace;
 
+pub use boards::board_entries;
 pub use pricing::price;
 pub use pruning::{Pruned, one_pruned, prune};
 pub use quoting::{one_quoted, quote};

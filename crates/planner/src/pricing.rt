@@ -61,10 +61,7 @@ fn cost_of<S: Scale>(book: &Book, run: &[u8], inside: &mut [S]) -> S
     let mut masks = [0; 24];
     let mut sheet = MaskSheet::new(&mut masks[..run.len()]);
     draw(&mut sheet, run);
-    let prices = RulePrices {
-        rules: book.rules(),
-    };
-    let task = Task::new(book, &prices, &sheet);
+    let task = Task::new(book, &RulePrices, &sheet);
     task.fill_inside(inside);
     task.least(inside)
 }

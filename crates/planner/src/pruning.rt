@@ -4,9 +4,9 @@ ghost use Rattle.derivations.specs.Runs.{NoneWithin};
 ghost use Rattle.derivations.specs.Trees.{prices};
 ghost use Rattle.planner.specs.Outcomes.{Answered, OnePruned, PrunedTo, passed, prune_refused};
 
-use crate::boards::entries;
+use crate::boards::board_entries;
 use crate::prices::RulePrices;
-use crate::searches::prune_by;
+use crate::searches::{check, prune_by};
 use book::Book;
 use refusal::Refusal;
 use scale::Scale;
@@ -42,37 +42,12 @@ pub fn prune<S: Scale, H: Sheet>(
         inside.len(),
         outside.len(),
     )?;
-    let prices = RulePrices {
-        rules: book.rules(),
-    };
-    match prune_by(sheet, book, &prices, limit, inside, outside) {
+    // No more of it is barred and filled than is needed.
+    let outside = &mut outside[..board_entries(&*sheet, book)];
+    match prune_by(sheet, book, &RulePrices, limit, inside, outside) {
         Some(pruned) => Ok(pruned),
         None => Err(Refusal::NoRun),
     }
-}
-
-// The checks before the search, of a sheet of so many places and of the boards.
-fn check<S: Scale>(
-    places: usize,
-    parts: u8,
-    limit: S,
-    inside: usize,
-    outside: usize,
-) -> Result<(), Refusal>
-    requires { places ≤ 24 }
-    ensures { result ≡ passed (prune_refused S.ops places parts limit inside outside) }
-{
-    if places == 0 {
-        return Err(Refusal::BadLength);
-    }
-    if S::barred().at_most(limit) {
-        return Err(Refusal::LimitBarred);
-    }
-    let needed = entries(places, parts);
-    if inside < needed || outside < needed {
-        return Err(Refusal::BoardTooShort);
-    }
-    Ok(())
 }
 
 // A prune ends in one way.

@@ -4,8 +4,8 @@ ghost use Rattle.derivations.specs.Runs.{NoneWithin};
 ghost use Rattle.derivations.specs.Trees.{prices};
 ghost use Rattle.planner.specs.Outcomes.{Answered, OneQuoted, QuotedAs, passed, quote_refused};
 
-use crate::boards::entries;
 use crate::prices::RulePrices;
+use crate::searches::check;
 use crate::tasks::Task;
 use book::Book;
 use refusal::Refusal;
@@ -29,7 +29,7 @@ pub fn quote<S: Scale, H: Sheet>(
     ensures run { OnErr result (run.new ≡ run.old) }
     ensures boards { IsSome (quote_refused S.ops (H.places sheet.now) book.now.parts limit (length inside.old) (length choices.old) (length run.old)) → (inside.new ≡ inside.old) × (choices.new ≡ choices.old) }
 {
-    check(
+    check_lent(
         sheet.length(),
         book.parts(),
         limit,
@@ -37,10 +37,7 @@ pub fn quote<S: Scale, H: Sheet>(
         choices.len(),
         run.len(),
     )?;
-    let prices = RulePrices {
-        rules: book.rules(),
-    };
-    let task = Task::new(book, &prices, sheet);
+    let task = Task::new(book, &RulePrices, sheet);
     match task.quote(limit, inside, choices, run) {
         Some(cost) => Ok(cost),
         None => Err(Refusal::NoRun),
@@ -48,7 +45,7 @@ pub fn quote<S: Scale, H: Sheet>(
 }
 
 // The checks before the search, of a sheet of so many places and of what is lent.
-fn check<S: Scale>(
+fn check_lent<S: Scale>(
     places: usize,
     parts: u8,
     limit: S,
@@ -59,16 +56,7 @@ fn check<S: Scale>(
     requires { places ≤ 24 }
     ensures { result ≡ passed (quote_refused S.ops places parts limit inside choices run) }
 {
-    if places == 0 {
-        return Err(Refusal::BadLength);
-    }
-    if S::barred().at_most(limit) {
-        return Err(Refusal::LimitBarred);
-    }
-    let needed = entries(places, parts);
-    if inside < needed || choices < needed {
-        return Err(Refusal::BoardTooShort);
-    }
+    check(places, parts, limit, inside, choices)?;
     if run < places {
         return Err(Refusal::LentTooShort);
     }

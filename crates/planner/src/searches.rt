@@ -4,8 +4,9 @@ ghost use Rattle.derivations.specs.Costs.{LeastOver};
 ghost use Rattle.derivations.specs.Runs.{NoneWithin};
 ghost use Rattle.planner.specs.Boards.{board_entries};
 ghost use Rattle.planner.specs.Charts.{Inside};
-ghost use Rattle.planner.specs.Outcomes.{PrunedTo, QuotedAs};
+ghost use Rattle.planner.specs.Outcomes.{PrunedTo, QuotedAs, passed, prune_refused};
 
+use crate::boards::entries;
 use crate::closing::Support;
 use crate::prices::Prices;
 use crate::pruning::Pruned;
@@ -13,18 +14,43 @@ use crate::spans::Span;
 use crate::tasks::Task;
 use crate::trace::trace;
 use book::Book;
+use refusal::Refusal;
 use scale::Scale;
 use sheet::Sheet;
 
+// The checks before a search with two boards, of a sheet of so many places.
+pub(crate) fn check<S: Scale>(
+    places: usize,
+    parts: u8,
+    limit: S,
+    one: usize,
+    other: usize,
+) -> Result<(), Refusal>
+    requires { places ≤ 24 }
+    ensures { result ≡ passed (prune_refused S.ops places parts limit one other) }
+{
+    if places == 0 {
+        return Err(Refusal::BadLength);
+    }
+    if S::barred().at_most(limit) {
+        return Err(Refusal::LimitBarred);
+    }
+    let needed = entries(places, parts);
+    if one < needed || other < needed {
+        return Err(Refusal::BoardTooShort);
+    }
+    Ok(())
+}
+
 impl<H: Sheet, W> Task<'_, H, W> {
     // What the cheapest open run costs, if that is within the limit.
-    pub(crate) fn least_within<S: Scale>(&self, limit: S, inside: &mut [S]) -> Option<S>
+    pub(crate) fn least_within<S: Scale>(self, limit: S, inside: &mut [S]) -> Option<S>
     where
         W: Prices<S>,
-        requires some { 1 ≤ H.places self.now.sheet.now }
-        requires room { board_entries (H.places self.now.sheet.now) self.now.parts ≤ length inside.old }
-        ensures answer { MatchOption result (NoneWithin S.ops (W.weights self.now.prices.now) self.now.rules.now (H.places self.now.sheet.now) (H.shown self.now.sheet.now) limit) (λ c. LeastOver S.ops (W.weights self.now.prices.now) self.now.rules.now (H.shown self.now.sheet.now) 0 0 (H.places self.now.sheet.now) c × (S.ops.le c limit ≡ true)) }
-        ensures inside { Inside S.ops (W.weights self.now.prices.now) self.now.rules.now (H.places self.now.sheet.now) (H.shown self.now.sheet.now) self.now.parts inside.new }
+        requires some { 1 ≤ H.places self.sheet.now }
+        requires room { board_entries (H.places self.sheet.now) self.parts ≤ length inside.old }
+        ensures answer { MatchOption result (NoneWithin S.ops (W.weights self.entry.prices.now self.entry.rules.now) self.entry.rules.now (H.places self.entry.sheet.now) (H.shown self.entry.sheet.now) limit) (λ c. LeastOver S.ops (W.weights self.entry.prices.now self.entry.rules.now) self.entry.rules.now (H.shown self.entry.sheet.now) 0 0 (H.places self.entry.sheet.now) c × (S.ops.le c limit ≡ true)) }
+        ensures inside { Inside S.ops (W.weights self.entry.prices.now self.entry.rules.now) self.entry.rules.now (H.places self.entry.sheet.now) (H.shown self.entry.sheet.now) self.entry.parts inside.new }
     {
         self.fill_inside(inside);
         let least = self.least(inside);
@@ -37,7 +63,7 @@ impl<H: Sheet, W> Task<'_, H, W> {
 
     // Writes the cheapest open run that the tie rule takes, if it is within the limit, and answers its cost.
     pub(crate) fn quote<S: Scale>(
-        &self,
+        self,
         limit: S,
         inside: &mut [S],
         choices: &mut [u32],
@@ -45,16 +71,16 @@ impl<H: Sheet, W> Task<'_, H, W> {
     ) -> Option<S>
     where
         W: Prices<S>,
-        requires some { 1 ≤ H.places self.now.sheet.now }
+        requires some { 1 ≤ H.places self.sheet.now }
         requires limit { S.ops.le S.ops.barred limit ≡ false }
-        requires inside { board_entries (H.places self.now.sheet.now) self.now.parts ≤ length inside.old }
-        requires choices { board_entries (H.places self.now.sheet.now) self.now.parts ≤ length choices.old }
-        requires run { H.places self.now.sheet.now ≤ length run.old }
-        ensures { MatchOption result (NoneWithin S.ops (W.weights self.now.prices.now) self.now.rules.now (H.places self.now.sheet.now) (H.shown self.now.sheet.now) limit × (run.new ≡ run.old)) (λ c. QuotedAs S.ops (W.weights self.now.prices.now) self.now.rules.now (H.places self.now.sheet.now) (H.shown self.now.sheet.now) limit run.old run.new c) }
+        requires inside { board_entries (H.places self.sheet.now) self.parts ≤ length inside.old }
+        requires choices { board_entries (H.places self.sheet.now) self.parts ≤ length choices.old }
+        requires run { H.places self.sheet.now ≤ length run.old }
+        ensures { MatchOption result (NoneWithin S.ops (W.weights self.entry.prices.now self.entry.rules.now) self.entry.rules.now (H.places self.entry.sheet.now) (H.shown self.entry.sheet.now) limit × (run.new ≡ run.old)) (λ c. QuotedAs S.ops (W.weights self.entry.prices.now self.entry.rules.now) self.entry.rules.now (H.places self.entry.sheet.now) (H.shown self.entry.sheet.now) limit run.old run.new c) }
     {
         let least = self.least_within(limit, inside)?;
-        self.choose(inside, choices);
         let all = Span::new(0, self.sheet.length());
+        self.choose(inside, choices, all, 0);
         trace(self.rules, self.parts, choices, all, 0, run);
         Some(least)
     }
@@ -73,7 +99,7 @@ pub(crate) fn prune_by<S: Scale, H: Sheet, W: Prices<S>>(
     requires limit { S.ops.le S.ops.barred limit ≡ false }
     requires inside { board_entries (H.places sheet.old) book.now.parts ≤ length inside.old }
     requires outside { board_entries (H.places sheet.old) book.now.parts ≤ length outside.old }
-    ensures answer { MatchOption result (NoneWithin S.ops (W.weights prices.now) book.now.rules.items (H.places sheet.old) (H.shown sheet.old) limit × (sheet.new ≡ sheet.old)) (λ p. PrunedTo S.ops (W.weights prices.now) book.now.rules.items (H.places sheet.old) (H.shown sheet.old) limit (H.shown sheet.new) p.least p.closed) }
+    ensures answer { MatchOption result (NoneWithin S.ops (W.weights prices.now book.now.rules.items) book.now.rules.items (H.places sheet.old) (H.shown sheet.old) limit × (sheet.new ≡ sheet.old)) (λ p. PrunedTo S.ops (W.weights prices.now book.now.rules.items) book.now.rules.items (H.places sheet.old) (H.shown sheet.old) limit (H.shown sheet.new) p.least p.closed) }
     ensures memory { H.kept sheet.old sheet.new }
 {
     let task = Task::new(book, prices, &*sheet);

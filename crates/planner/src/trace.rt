@@ -1,6 +1,6 @@
 // The run that a board of choices names.
-ghost use Rattle.std.specs.Prelude.{◌≡◌, ◌+◌, ◌*◌, ◌<◌, ◌≤◌, length};
-ghost use Rattle.book.specs.Ranges.{AllInRange};
+ghost use Rattle.std.specs.Prelude.{All, ◌≡◌, ◌+◌, ◌*◌, ◌<◌, ◌≤◌, length};
+ghost use Rattle.book.specs.Ranges.{InRange};
 ghost use Rattle.derivations.specs.Trees.{Tree, strokes};
 ghost use Rattle.planner.specs.Boards.{spans_before};
 ghost use Rattle.planner.specs.Codes.{Follows};
@@ -15,7 +15,7 @@ use book::{RightSide, Rule};
 pub(crate) fn trace(rules: &[Rule], parts: u8, codes: &[u32], span: Span, part: u8, run: &mut [u8])
     requires part { part < parts }
     requires rules { length rules.now ≤ 128 }
-    requires ranged { AllInRange parts rules.now }
+    requires ranged { All (InRange parts) rules.now }
     requires codes { spans_before (span.before + span.len) * parts ≤ length codes.now }
     requires run { span.before + span.len ≤ length run.old }
     requires follows { (t : Tree) × Follows rules.now codes.now parts part span.before span.len t }

@@ -9,5 +9,5 @@ draw-requires-clause-shut g c = blank_shown c.new-sheet.result.memory.now (lengt
 pub returns : goal.returns
 returns g c =
     let task = c.new-task.ensures in
-    let least = rw (task.rules, task.prices, task.sheet, c.rules.ensures, c.draw.ensures.pairs, c.draw.ensures.long) at c.least.ensures in
+    let least = rw (task.rules, task.sheet, c.draw.ensures.pairs, c.draw.ensures.long) at c.least.ensures in
     over_run_is g.met.S.Scale.lawful _ _ c.args.run.now c.least.result least

@@ -1,5 +1,5 @@
-use Rattle.std.proofs.Common.{◌≡◌, ℕ, ◌+◌, ◌<◌, true, ◌↔◌, subst}
-use Rattle.book.specs.Ranges.{AllInRange}
+use Rattle.std.proofs.Common.{All, ◌≡◌, ℕ, ◌+◌, ◌<◌, true, ◌↔◌, subst}
+use Rattle.book.specs.Ranges.{InRange}
 use Rattle.sheet.specs.Pairs.{in_range}
 use Rattle.derivations.specs.Support.{CutWithin}
 use Rattle.derivations.proofs.Running.{least_computed, over_sheet_cheapest}
@@ -12,7 +12,7 @@ pub returns-clause-answer : goal.returns-clause-answer
 returns-clause-answer g c =
     let laws = g.met.S.Scale.lawful in
     let o = g.S.Scale.ops in
-    let W = g.W.Prices.weights c.args.prices.now in
+    let W = g.W.Prices.weights c.args.prices.now c.args.book.now.rules.items in
     let rules = c.args.book.now.rules.items in
     let k = c.args.book.now.parts in
     let n = g.H.Sheet.places c.args.sheet.now in
@@ -23,7 +23,7 @@ returns-clause-answer g c =
     let with = c.new-support.ensures in
     let least = rw (task.rules, task.prices, task.sheet) at c.in_ok-least.ensures.answer in
     let outside : Outside o W rules n shown k board = rw (task.rules, task.prices, task.sheet, task.parts) at c.fill_outside.ensures in
-    let ranged : AllInRange k rules = rw (task.rules, task.parts) at c.new-task.result.ranged in
+    let ranged : All (InRange k) rules = rw (task.rules, task.parts) at c.new-task.result.ranged in
     let within : (p c : ℕ) → after p c ≡ true → in_range n p c ≡ true = λ p x h. subst (λ m. in_range m p x ≡ true) (g.H.Sheet.laws.lasts c.args.sheet.now c.close_all-closed.new.sheet c.close_all-closed.ensures.memory) (g.H.Sheet.laws.within c.close_all-closed.new.sheet p x h) in
     let left : (before x : ℕ) → before < n → (after (before + 1) x ≡ true) ↔ CutWithin o W rules shown (λ part. entry_of o.barred k board part before 1) before x c.args.limit = rw (with.rules, with.parts, with.prices, with.outside, with.limit) at c.close_all-closed.ensures.left in
     record {

@@ -10,7 +10,7 @@ loop-before-preserved g c =
     let a = c.args in
     let s = a.self.now in
     let o = g.S.Scale.ops in
-    let W = g.W.Prices.weights s.prices.now in
+    let W = g.W.Prices.weights s.prices.now s.rules.now in
     let f = g.H.Sheet.shown a.sheet.now in
     let out = λ (q : ℕ) (part : ℕ). entry_of o.barred s.parts s.outside.now part q 1 in
     let l = c.loop-before in
@@ -27,6 +27,6 @@ overflow_add-closed g c =
     let s = c.args.self.now in
     let o = g.S.Scale.ops in
     let l = c.loop-before in
-    let few = before_few o (g.W.Prices.weights s.prices.now) s.rules.now (g.H.Sheet.shown c.args.sheet.now) (λ q part. entry_of o.barred s.parts s.outside.now part q 1) s.limit (g.H.Sheet.shown l.sheet) l.before l.closed l.invariant.closing in
+    let few = before_few o (g.W.Prices.weights s.prices.now s.rules.now) s.rules.now (g.H.Sheet.shown c.args.sheet.now) (λ q part. entry_of o.barred s.parts s.outside.now part q 1) s.limit (g.H.Sheet.shown l.sheet) l.before l.closed l.invariant.closing in
     let more = strokes_few (gone (g.H.Sheet.shown l.sheet) l.before (g.H.Sheet.shown c.close_at-closed.new.sheet)) 26 in
     omega (arith, few, more, c.close_at-closed.ensures.count, c.loop-before-test.true, c.length-before-end.ensures, g.H.Sheet.laws.few c.args.sheet.now)

@@ -4,4 +4,4 @@ use Rattle.planner.specs.Charts.{Filled}
 use Rattle.planner.proofs.tasks.Task.fill_inside.Given as goal
 
 abbrev pub invariant-loop-last : goal.invariant-loop-last
-invariant-loop-last g l = Filled g.S.Scale.ops (g.W.Prices.weights l.self.prices.now) l.self.rules.now (g.H.Sheet.shown l.self.sheet.now) l.self.parts l.board (spans_before (l.last - 1))
+invariant-loop-last g l = Filled g.S.Scale.ops (g.W.Prices.weights l.self.prices.now l.self.rules.now) l.self.rules.now (g.H.Sheet.shown l.self.sheet.now) l.self.parts l.board (spans_before (l.last - 1))

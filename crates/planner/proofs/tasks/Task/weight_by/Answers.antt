@@ -8,7 +8,7 @@ use Rattle.planner.proofs.tasks.Task.weight_by.Goals as goal
 pub entry-a-requires-clause-room : goal.entry-a-requires-clause-room
 entry-a-requires-clause-room g c =
     let a = c.args in
-    let t = a.self.now in
+    let t = a.self in
     let u = rule_at t.rules.now a.rule in
     let within = halves_within t.parts u.part c.in-Pair.left c.in-Pair.right u.side c.in-Pair.is (t.ranged a.rule blank c.requires.rule).0 in
     rw (c.left.ensures.before, c.left.ensures.len) (index_left t.parts a.span.before a.span.len a.split c.in-Pair.left (length a.board.now) within.0 (omega arith) c.requires.split c.requires.room)
@@ -16,20 +16,20 @@ entry-a-requires-clause-room g c =
 pub returns-then-look : goal.returns-then-look
 returns-then-look g c =
     let a = c.args in
-    let t = a.self.now in
-    by_cut g.met.S.Scale.lawful (g.W.Prices.weights t.prices.now) t.rules.now (g.H.Sheet.shown t.sheet.now) a.rule a.span.before a.span.len a.split c.in-Cut.stroke c.price_at.result c.requires.rule c.in-Cut.is c.if-span-eq1.true c.requires.split (cc) c.price_at.ensures
+    let t = a.self in
+    by_cut g.met.S.Scale.lawful (g.W.Prices.weights t.prices.now t.rules.now) t.rules.now (g.H.Sheet.shown t.sheet.now) a.rule a.span.before a.span.len a.split c.in-Cut.stroke c.price_at.result c.requires.rule c.in-Cut.is c.if-span-eq1.true c.requires.split (cc) c.price_at.ensures
 
 pub returns-then-split-eq0 : goal.returns-then-split-eq0
 returns-then-split-eq0 g c =
     let a = c.args in
-    let t = a.self.now in
-    rw (c.barred-then-split-eq0.ensures, c.if-split-eq0.true) (by_no_pair g.met.S.Scale.lawful (g.W.Prices.weights t.prices.now) t.rules.now (g.H.Sheet.shown t.sheet.now) a.rule (rule_at t.rules.now a.rule).part a.span.before a.span.len c.in-Pair.left c.in-Pair.right c.in-Pair.is)
+    let t = a.self in
+    rw (c.barred-then-split-eq0.ensures, c.if-split-eq0.true) (by_no_pair g.met.S.Scale.lawful (g.W.Prices.weights t.prices.now t.rules.now) t.rules.now (g.H.Sheet.shown t.sheet.now) a.rule (rule_at t.rules.now a.rule).part a.span.before a.span.len c.in-Pair.left c.in-Pair.right c.in-Pair.is)
 
 pub returns-else-split-eq0 : goal.returns-else-split-eq0
 returns-else-split-eq0 g c =
     let a = c.args in
-    let t = a.self.now in
+    let t = a.self in
     let u = rule_at t.rules.now a.rule in
     let within = halves_within t.parts u.part c.in-Pair.left c.in-Pair.right u.side c.in-Pair.is (t.ranged a.rule blank c.requires.rule).0 in
-    by_pair g.met.S.Scale.lawful (g.W.Prices.weights t.prices.now) t.rules.now (g.H.Sheet.shown t.sheet.now) t.parts a.board.now a.rule a.span.before a.span.len a.split c.in-Pair.left c.in-Pair.right c.join-else-split-eq0.result c.requires.rule c.in-Pair.is within.0 within.1 (omega arith) c.requires.split c.requires.filled
+    by_pair g.met.S.Scale.lawful (g.W.Prices.weights t.prices.now t.rules.now) t.rules.now (g.H.Sheet.shown t.sheet.now) t.parts a.board.now a.rule a.span.before a.span.len a.split c.in-Pair.left c.in-Pair.right c.join-else-split-eq0.result c.requires.rule c.in-Pair.is within.0 within.1 (omega arith) c.requires.split c.requires.filled
     (cc (c.entry-a.ensures g.S.Scale.ops.barred, c.entry-b.ensures g.S.Scale.ops.barred))

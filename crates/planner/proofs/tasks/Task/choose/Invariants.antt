@@ -1,7 +1,0 @@
-use Rattle.std.proofs.Common.{◌-◌}
-use Rattle.planner.specs.Boards.{spans_before}
-use Rattle.planner.specs.Codes.{Coded}
-use Rattle.planner.proofs.tasks.Task.choose.Given as goal
-
-abbrev pub invariant-loop-last : goal.invariant-loop-last
-invariant-loop-last g l = Coded g.S.Scale.ops (g.W.Prices.weights l.self.prices.now) l.self.rules.now (g.H.Sheet.shown l.self.sheet.now) l.self.parts l.board l.codes (spans_before (l.last - 1))
