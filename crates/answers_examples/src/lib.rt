@@ -1,4 +1,4 @@
-// Days of events at the edges, and what is printed of them.
+// Events at the edges, and what is printed of them.
 #![tactic(auto)]
 
 #[cfg(test)]

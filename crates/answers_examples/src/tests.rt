@@ -1,6 +1,6 @@
 // Examples of what the program `office` prints.
-mod days;
 mod lines;
+mod lives;
 mod refusals;
 mod scales;
 
@@ -58,7 +58,7 @@ fn refused(
     expected: &[u8],
 ) -> Result<(), Fail> {
     let report = office_report(heap, book, order, b"mark\n");
-    assert!(rt; report.is_err(), "the day is played");
+    assert!(rt; report.is_err(), "the events are played");
     assert_eq!(rt; printed(&report), expected);
     Ok(())
 }

@@ -1,5 +1,5 @@
 -- What is written reads back the same: the text of a book tells that book. Assumes nothing.
-use Rattle.std.proofs.Common.{◌≡◌, ℕ, List, [], ◌∷◌, ◌++◌, map, drop, Some, Ok, Err, vec_items, decimal, sym, refl, ap, ◌∙◌, subst, inl, append_assoc, arith}
+use Rattle.std.proofs.Common.{◌≡◌, ℕ, ◌≤◌, List, [], ◌∷◌, ◌++◌, map, length, drop, Some, Ok, Err, vec_items, decimal, sym, refl, ap, ◌∙◌, subst, inr, append_assoc, arith}
 use Rattle.std.specs.List.{flat_map, AllByRecursion}
 use Rattle.refusal.specs.declared.Fault.{Fault}
 use Rattle.text.specs.Fields.{fielded, Short, Lacks}
@@ -57,14 +57,14 @@ module _ (b : Book) (text : List ℕ) (same : text ≡ book_text b) where
   tells = subst (λ t. Tells t b.parts (vec_items b.rules)) (sym same) (written_tells _ _ (lawful_of b))
 
   -- the text is read as the book, and is written
-  pub again_same : (c : Book) (n : ℕ) (before after : List ℕ) → ((e : Ending Stated) → Ends book_form text e → Agrees text e (Ok c)) → Wrote (book_text b) before (Ok n) after → ReadBack b before (Ok c) after
-  again_same c n before after only w =
+  pub again_same : (c : Book) (n : ℕ) (before after : List ℕ) → length (book_text b) ≤ length before → ((e : Ending Stated) → Ends book_form text e → Agrees text e (Ok c)) → Wrote (book_text b) before (Ok n) after → ReadBack b before (Ok c) after
+  again_same c n before after room only w =
       let sum = only (stated (record { parts = Some b.parts; rules = vec_items b.rules })) (tells_accepted _ _ _ tells) in
       let e = ap (λ (d : Stated). d.parts) sum in
       let k : c.parts ≡ b.parts = cc in
       let us : vec_items c.rules ≡ vec_items b.rules = sym (ap (λ (d : Stated). d.rules) sum) in
       let told = subst (λ n. Tells (book_text b) n (vec_items c.rules)) (sym k) (subst (λ rs. Tells (book_text b) b.parts rs) (sym us) (written_tells _ _ (lawful_of b))) in
-      (told, k, us, w.1 ∙ ap (λ m. book_text b ++ drop m before) w.0)
+      (room, told, k, us, w.1 ∙ ap (λ m. book_text b ++ drop m before) w.0)
 
-  pub again_none : (f : Fault) (before : List ℕ) → Told text (Err f) → ReadBack b before (Err f.refusal) before
-  again_none f before told = (inl (sym (ap (λ (x : Fault). x.refusal) (told _ _ tells))), refl)
+  pub again_none : (f : Fault) (before : List ℕ) → length (book_text b) ≤ length before → Told text (Err f) → ReadBack b before (Err f.refusal) before
+  again_none f before room told = (inr (sym (ap (λ (x : Fault). x.refusal) (told _ _ tells)), room), refl)

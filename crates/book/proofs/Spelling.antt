@@ -4,8 +4,9 @@ use Rattle.text.specs.Fields.{fielded, Numbered, NumberField, StrokeField, Short
 use Rattle.text.specs.declared.kinds.Kind.{Kind}
 use Rattle.text.specs.declared.kinds.Kind.TheVariants as kind
 use Rattle.text.specs.Kinds.{letter_of}
-use Rattle.text.specs.Reading.{OneOf, Known, Plain}
+use Rattle.text.specs.Reading.{OneOf, Known}
 use Rattle.text.proofs.Letters.{clash}
+use Rattle.text.proofs.Endings.{Plain}
 use Rattle.text.proofs.Chaining.{fielded_unique, same_number, number_lacks, two_by_two, front_number, front_stroke}
 use Rattle.book.specs.declared.rules.RightSide.{RightSide}
 use Rattle.book.specs.declared.rules.RightSide.TheVariants.{Cut, Pair}

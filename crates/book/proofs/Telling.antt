@@ -42,7 +42,7 @@ first_parts (parts n ∷ ls) bs k rules h =
     let e = t.parts_same in
     let same : n ≡ k = cc in
     (λ i. parts (same i) ∷ (t.told ∙ ap (map rule) t.rules_same) i)
-first_parts (rule u ∷ ls) bs k rules h = absurd h.1.passed.0
+first_parts (rule u ∷ ls) bs k rules h = let e = h.1.passed.0 in let z : ◌≡◌ {A = ℕ} 0 1 = cc in absurd (omega arith)
 
 -- and the other way
 rules_told : (k : ℕ) (ls : List Said) (done todo : List Rule) (bs : List ℕ) → Listed book_form ls bs → without_notes ls ≡ map rule todo → AllByRecursion (InRange k) todo → length done + length todo ≤ 128 → Reads book_form ls (record { parts = Some k; rules = done }) bs (record { parts = Some k; rules = done ++ todo }) []
@@ -57,7 +57,7 @@ rules_told k (rule u ∷ ls) done (v ∷ vs) bs h e a n =
     let rest : without_notes ls ≡ map rule vs = cc in
     let more = rules_told k ls (done ++ u ∷ []) vs h.1 h.4 rest a.1 (omega (arith, length_push done u)) in (
       h.1,
-      record { line = h.0; starts = h.2; stated = h.3; passed = (tt, (subst (InRange k) same a.0, (omega arith, tt))) },
+      record { line = h.0; starts = h.2; stated = h.3; passed = (refl, (subst (InRange k) same a.0, (omega arith, tt))) },
       subst (λ l. Reads book_form ls (record { parts = Some k; rules = done ++ u ∷ [] }) h.1 (record { parts = Some k; rules = l }) []) (append_assoc done (u ∷ []) vs ∙ ap (λ w. done ++ w ∷ vs) (sym same)) more,
     )
 

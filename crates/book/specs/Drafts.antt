@@ -15,7 +15,8 @@ stated_by d = record { parts = d.parts; rules = vec_items d.rules }
 abbrev pub Full : BookDraft → Type 0
 Full d = vec_capacity d.rules ≤ vec_len d.rules
 
--- d takes the statement and becomes e, or is refused: for the first test that fails, or for want of memory for a rule
+-- d takes the statement and becomes e, or is refused and states what it stated: for the first test that fails, or for want of
+-- memory for a rule
 abbrev pub Adds : BookDraft → Said → Result (Unit {0}) Refusal → BookDraft → Type 0
 Adds d said (Ok _) e = Passes (book_tests (stated_by d) said) × (stated_by e ≡ stated_after (stated_by d) said)
-Adds d said (Err r) e = Fails (book_tests (stated_by d) said) r ⊎ ((r ≡ OutOfMemory) × Passes (book_tests (stated_by d) said) × IsRule said × Full d)
+Adds d said (Err r) e = (Fails (book_tests (stated_by d) said) r ⊎ ((r ≡ OutOfMemory) × Passes (book_tests (stated_by d) said) × IsRule said × Full d)) × (stated_by e ≡ stated_by d)

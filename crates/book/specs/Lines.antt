@@ -4,6 +4,7 @@ use Rattle.book.specs.declared.lines.Line.TheVariants as line
 use Rattle.book.specs.Statements.{Said, parts, rule, note}
 use Rattle.book.specs.Fields.{cut_rule, pair_rule}
 
+-- what the code's line states
 abbrev pub said_by : Line → Said
 said_by (line.Parts k) = parts k
 said_by (line.Cut c) = rule (cut_rule c)

@@ -1,5 +1,5 @@
 -- What the numbers and letters of a book may be. Assumes nothing.
-use Rattle.std.specs.Prelude.{◌≡◌, ℕ, ◌<◌, ◌≤◌, max, Bool, true, ◌&&◌, List, length, get_or, nat_le, slice_index_or}
+use Rattle.std.specs.Prelude.{◌≡◌, ℕ, ◌<◌, ◌≤◌, max, Bool, true, ◌&&◌, List, length, All, nat_le}
 use Rattle.book.specs.declared.rules.RightSide.{RightSide}
 use Rattle.book.specs.declared.rules.RightSide.TheVariants.{Cut, Pair}
 use Rattle.book.specs.declared.rules.Rule.{Rule}
@@ -18,18 +18,11 @@ abbrev pub lettered : RightSide → Bool
 lettered (Cut stroke) = nat_le 65 stroke && nat_le stroke 90
 lettered (Pair left right) = true
 
--- each rule is so
-abbrev pub AllInRange : ℕ → List Rule → Type 0
-AllInRange k rules = (i : ℕ) (d : Rule) → i < length rules → InRange k (slice_index_or rules i d)
-
-abbrev pub AllLettered : List Rule → Type 0
-AllLettered rules = (i : ℕ) (d : Rule) → i < length rules → lettered (get_or rules i d).side ≡ true
-
 -- k parts and these rules make a book
 pub record Lawful (k : ℕ) (rules : List Rule) : Type 0 where
   pub some_parts : 1 ≤ k
   pub few_parts : k ≤ 32
   pub some_rules : 1 ≤ length rules
   pub few_rules : length rules ≤ 128
-  pub ranged : AllInRange k rules
-  pub lettered_strokes : AllLettered rules
+  pub ranged : All (InRange k) rules
+  pub lettered_strokes : All (λ u. lettered u.side ≡ true) rules

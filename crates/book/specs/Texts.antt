@@ -1,9 +1,7 @@
 -- What a text says of a book, and how its reading ends. Assumes nothing.
 use Rattle.std.specs.Prelude.{◌≡◌, ℕ, ◌≤◌, List, [], ◌∷◌, map, length, Some, Ok, Err, vec_items, Result}
-use Rattle.refusal.specs.declared.Refusal.{Refusal}
 use Rattle.refusal.specs.declared.Source.TheVariants as source
 use Rattle.refusal.specs.declared.Fault.{Fault}
-use Rattle.refusal.specs.Faults.{in_text}
 use Rattle.text.specs.Reading.{Listed, Ending}
 use Rattle.text.specs.Readings.{no_memory, ReadAs}
 use Rattle.text.specs.Readings as readings
@@ -36,10 +34,6 @@ abbrev pub IsRule : Said → Type 0
 IsRule (parts k) = ⊥
 IsRule (rule u) = Unit {0}
 IsRule (note words) = ⊥
-
--- the refusal at a line of a book's text
-abbrev pub in_book : Refusal → ℕ → Fault
-in_book r number = in_text source.Book r number
 
 -- r is the book that the text states, or the first refusal with its line; or there was no memory for a rule
 abbrev pub Outcome : List ℕ → Result Book Fault → Type 0

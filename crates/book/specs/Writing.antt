@@ -1,5 +1,5 @@
 -- A book as it is written, and written again. Assumes nothing.
-use Rattle.std.specs.Prelude.{◌≡◌, ℕ, ◌<◌, ◌⊎◌, List, [], ◌∷◌, ◌++◌, length, drop, Ok, Err, vec_items, Result}
+use Rattle.std.specs.Prelude.{◌≡◌, ℕ, ◌<◌, ◌≤◌, ◌⊎◌, List, [], ◌∷◌, ◌++◌, length, drop, Ok, Err, vec_items, Result}
 use Rattle.std.specs.List.{flat_map}
 use Rattle.refusal.specs.declared.Refusal.{Refusal}
 use Rattle.refusal.specs.declared.Refusal.TheVariants.{LentTooShort, OutOfMemory}
@@ -12,10 +12,11 @@ use Rattle.book.specs.Texts.{Tells}
 abbrev pub ended_line : Said → List ℕ
 ended_line said = line_text said ++ 10 ∷ []
 
--- the line of the number of parts, and the lines of the rules in the order of their numbers
+-- k parts and these rules as they are written: the line of the number of parts, and the lines of the rules in their order
 unfoldable pub written : ℕ → List Rule → List ℕ
 written k rules = ended_line (parts k) ++ flat_map (λ u. ended_line (rule u)) rules
 
+-- the book as it is written
 abbrev pub book_text : Book → List ℕ
 book_text b = written b.parts (vec_items b.rules)
 
@@ -24,8 +25,8 @@ abbrev pub Wrote : List ℕ → List ℕ → Result ℕ Refusal → List ℕ →
 Wrote text before (Ok n) after = (n ≡ length text) × (after ≡ text ++ drop n before)
 Wrote text before (Err r) after = (LentTooShort ≡ r) × (length before < length text) × (after ≡ before)
 
--- the text of b tells the book c, which is b again, and stands at the front of after; or there was no memory for the book, or
--- before is too short for the text, and before stays as it is
+-- before has room for the text of b, which tells the book c, b again, and stands at the front of after; or before is too short
+-- for the text, or has room and there was no memory for the book, and before stays as it is
 abbrev pub ReadBack : Book → List ℕ → Result Book Refusal → List ℕ → Type 0
-ReadBack b before (Ok c) after = Tells (book_text b) c.parts (vec_items c.rules) × (c.parts ≡ b.parts) × (vec_items c.rules ≡ vec_items b.rules) × (after ≡ book_text b ++ drop (length (book_text b)) before)
-ReadBack b before (Err r) after = ((OutOfMemory ≡ r) ⊎ ((LentTooShort ≡ r) × (length before < length (book_text b)))) × (after ≡ before)
+ReadBack b before (Ok c) after = (length (book_text b) ≤ length before) × Tells (book_text b) c.parts (vec_items c.rules) × (c.parts ≡ b.parts) × (vec_items c.rules ≡ vec_items b.rules) × (after ≡ book_text b ++ drop (length (book_text b)) before)
+ReadBack b before (Err r) after = (((LentTooShort ≡ r) × (length before < length (book_text b))) ⊎ ((OutOfMemory ≡ r) × (length (book_text b) ≤ length before))) × (after ≡ before)

@@ -1,6 +1,6 @@
 // A book, whose numbers are always in range.
-ghost use Rattle.std.specs.Prelude.{◌≡◌, ◌≤◌, length};
-ghost use Rattle.book.specs.Ranges.{AllInRange, AllLettered};
+ghost use Rattle.std.specs.Prelude.{◌≡◌, ◌≤◌, true, length, All};
+ghost use Rattle.book.specs.Ranges.{InRange, lettered};
 
 use crate::rules::Rule;
 
@@ -13,8 +13,8 @@ pub struct Book {
     ghost few_parts: { parts ≤ 32 },
     ghost some_rules: { 1 ≤ length rules.items },
     ghost few_rules: { length rules.items ≤ 128 },
-    ghost ranged: { AllInRange parts rules.items },
-    ghost lettered: { AllLettered rules.items },
+    ghost ranged: { All (InRange parts) rules.items },
+    ghost lettered: { All (λ u. lettered u.side ≡ true) rules.items },
 }
 
 impl Book {

@@ -1,8 +1,8 @@
 // What the lines of a book's text state together, while it is read.
-ghost use Rattle.std.specs.Prelude.{◌≡◌, ◌≤◌, true, length, Some, None, MatchResult};
+ghost use Rattle.std.specs.Prelude.{◌≡◌, ◌≤◌, true, length, Some, None, MatchResult, All};
 ghost use Rattle.std.specs.Option.{ForSome};
 ghost use Rattle.refusal.specs.declared.Refusal.TheVariants.{PartsMisplaced};
-ghost use Rattle.book.specs.Ranges.{lettered, AllInRange, AllLettered};
+ghost use Rattle.book.specs.Ranges.{lettered, InRange};
 ghost use Rattle.book.specs.Statements.{Said, parts, rule as rule_said, RangedIn, Stated, book_form};
 ghost use Rattle.book.specs.Texts.{stated_in, IsRule};
 ghost use Rattle.book.specs.Lines.{said_by};
@@ -22,8 +22,8 @@ pub(crate) struct BookDraft {
     ghost no_rule_before: { parts ≡ None → length rules.items ≡ 0 },
     ghost parts_in_range: { ForSome parts (λ k. (1 ≤ k) × (k ≤ 32)) },
     ghost few_rules: { length rules.items ≤ 128 },
-    ghost ranged: { ForSome parts (λ k. AllInRange k rules.items) },
-    ghost lettered: { AllLettered rules.items },
+    ghost ranged: { ForSome parts (λ k. All (InRange k) rules.items) },
+    ghost lettered: { All (λ u. lettered u.side ≡ true) rules.items },
 }
 
 impl BookDraft {

@@ -66,11 +66,15 @@ pub fn write(book: &Book, out: &mut [u8]) -> Result<usize, Refusal>
     Ok(n)
 }
 
-// Reads the book's text again, the same book, and writes it at the front of `out`; a refusal leaves `out` as it was.
+// Reads the book's text again, the same book, and writes it at the front of `out`. An output that is too short is refused
+// before the text is read; a refusal leaves `out` as it was.
 pub fn read_back(heap: Global, book: &Book, out: &mut [u8]) -> Result<Book, Refusal>
     ensures { ReadBack book.now out.old result out.new }
 {
     let page = page_of(book);
+    if page.text().len() > out.len() {
+        return Err(Refusal::LentTooShort);
+    }
     let again = read(heap, page.text())?;
     write(book, out)?;
     Ok(again)

@@ -65,4 +65,7 @@ cost o W rules run = least_cost o W rules (length run) (has run)
 
 -- the cost that is computed is the least weight of the run's derivations, and nothing else is
 abbrev pub CostTheorem : {S : Type 0} → Ops S → Type 0
-CostTheorem {S} o = (W : Weights S) (rules : List Rule) (run : List ℕ) → Costs o W rules run (cost o W rules run) × ((c : S) → Costs o W rules run c → c ≡ cost o W rules run)
+CostTheorem {S} o =
+    (W : Weights S) (rules : List Rule) (run : List ℕ)
+    → Costs o W rules run (cost o W rules run)
+    × ((c : S) → Costs o W rules run c → c ≡ cost o W rules run)

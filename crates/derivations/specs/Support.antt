@@ -19,4 +19,8 @@ pub record CutWithin {S : Type 0} (o : Ops S) (W : Weights S) (rules : List Rule
 -- within a limit that is not barred, some run has the stroke at the place exactly where some cut of it is within the limit
 abbrev pub SupportTheorem : {S : Type 0} → Ops S → Type 0
 SupportTheorem {S} o =
-    (W : Weights S) (rules : List Rule) (n : ℕ) (shown : Pairs) (out : ℕ → S) (before c : ℕ) (limit : S) → before < n → o.le o.barred limit ≡ false → ((r part stroke : ℕ) → Makes rules r part (Cut stroke) → LeastAround o W rules shown n part before 1 (out part)) → Supported o W rules n shown limit (before + 1) c ↔ CutWithin o W rules shown out before c limit
+    (W : Weights S) (rules : List Rule) (n : ℕ) (shown : Pairs) (out : ℕ → S) (before c : ℕ) (limit : S)
+    → before < n
+    → o.le o.barred limit ≡ false
+    → ((r part stroke : ℕ) → Makes rules r part (Cut stroke) → LeastAround o W rules shown n part before 1 (out part))
+    → Supported o W rules n shown limit (before + 1) c ↔ CutWithin o W rules shown out before c limit

@@ -42,4 +42,7 @@ Chosen o W rules shown part before len (pair r a b) =
 -- the tie rule takes one derivation at most
 abbrev pub OneChosen : {S : Type 0} → Ops S → Type 0
 OneChosen {S} o =
-    (W : Weights S) (rules : List Rule) (shown : Pairs) (part before len : ℕ) (t u : Tree) → Chosen o W rules shown part before len t → Chosen o W rules shown part before len u → t ≡ u
+    (W : Weights S) (rules : List Rule) (shown : Pairs) (part before len : ℕ) (t u : Tree)
+    → Chosen o W rules shown part before len t
+    → Chosen o W rules shown part before len u
+    → t ≡ u

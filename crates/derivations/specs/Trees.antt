@@ -22,6 +22,7 @@ width (pair r a b) = width a + width b
 abbrev pub blank : Rule
 blank = record { part = 0; side = Cut 0; time = 0; grade = 0 }
 
+-- the rule at an index, and the blank one past the end
 abbrev pub rule_at : List Rule → ℕ → Rule
 rule_at rules r = slice_index_or rules r blank
 
@@ -37,6 +38,7 @@ Derives rules part (cut r) = (stroke : ℕ) × Makes rules r part (Cut stroke)
 Derives rules part (pair r a b) =
     (left : ℕ) × (right : ℕ) × Makes rules r part (Pair left right) × Derives rules left a × Derives rules right b
 
+-- the stroke of a cut; a pair has none, and 0 stands for it
 abbrev pub stroke_of : RightSide → ℕ
 stroke_of (Cut stroke) = stroke
 stroke_of (Pair left right) = 0
@@ -56,6 +58,7 @@ weight o W before (cut r) = W r (before + 1) 1
 weight o W before (pair r a b) =
     o.join (W r (before + 1) (width a + width b)) (o.join (weight o W before a) (weight o W (before + width a) b))
 
+-- the price of a rule, and barred where there is none
 abbrev pub price_of : {S : Type 0} → Ops S → Option Rule → S
 price_of o (Some rule) = o.price rule.time rule.grade
 price_of o None = o.barred

@@ -1,8 +1,8 @@
 -- The strokes of a place closed one after another, from A on.
-use Rattle.std.proofs.Common.{◌≡◌, ℕ, ◌+◌, ◌<◌, ◌≤◌, true, false, cond, not, ◌&&◌, eqb, ltb, leb, ap, ◌∙◌, arith}
+use Rattle.std.proofs.Common.{◌≡◌, ℕ, ◌+◌, ◌≤◌, true, false, cond, not, ◌&&◌, eqb, ltb, leb, ap, ◌∙◌, arith}
 use mathlib.Core.Path.{fun_ext}
 use Rattle.std.proofs.lemmas.Bool.Decides.{nat_tests}
-use Rattle.sheet.specs.Pairs.{Pairs, in_range, closed_at}
+use Rattle.sheet.specs.Pairs.{Pairs, closed_at}
 use Rattle.lending.specs.Closings.{only_at}
 
 module _ (f : Pairs) (p c : ℕ) where
@@ -19,9 +19,6 @@ module _ (f : Pairs) (p c : ℕ) where
 
   pub below_passed : (k : ℕ) {g : Pairs} → k ≡ c → g ≡ closed_below k → g ≡ closed_below (k + 1)
   below_passed k e eg = eg ∙ fun_ext (λ q. fun_ext (λ d. grind (arith, nat_tests)))
-
-  pub below_all : (k : ℕ) → 90 < k → (n : ℕ) → ((q d : ℕ) → f q d ≡ true → in_range n q d ≡ true) → closed_below k ≡ only_at f p c
-  below_all k past n within = fun_ext (λ q. fun_ext (λ d. let h = within q d in grind (arith, nat_tests)))
 
   pub only_less : (q d : ℕ) → only_at f p c q d ≡ true → f q d ≡ true
   only_less q d h = grind (arith, nat_tests)

@@ -4,7 +4,7 @@ use Rattle.std.proofs.lemmas.List.FromFn.{fill_by_all}
 use Rattle.std.proofs.lemmas.Bool.Decides.{nat_tests}
 use Rattle.std.proofs.lemmas.Bool.{and_parts, and_from, and_left, and_right, cases_Bool, cond-true, cond-false}
 use Rattle.sheet.specs.Pairs.{Pairs, in_range, is_place, is_stroke, closed_at, opened_at}
-use Rattle.sheet.specs.Cards.{card_places, card_shown, row, letter, written, CardRest}
+use Rattle.sheet.specs.Cards.{card_places, card_shown, row, letter, with_byte, CardRest}
 use Rattle.sheet.specs.CardLaws.{card_laws}
 use Rattle.sheet.proofs.Pins.{card_pins, closed_bytes}
 use Rattle.sheet.proofs.Sets.{between_less, closed_less, opened_none}
@@ -28,7 +28,7 @@ card_only bs cs p c rest e =
 -- the stroke c of the place p is open, and is written over
 module _ (bs : List ℕ) (p c : ℕ) (was : card_shown bs p c ≡ true) where
   abbrev stopped : List ℕ
-  stopped = written bs p c 46
+  stopped = with_byte bs p c 46
 
   abbrev shut : Pairs
   shut = closed_at (card_shown bs) p c
@@ -40,12 +40,12 @@ module _ (bs : List ℕ) (p c : ℕ) (was : card_shown bs p c ≡ true) where
   same_places = card_laws.lasts bs stopped stop.0
 
   -- d is a stroke: its letter is written
-  exchange_done : (d : ℕ) → is_stroke d ≡ true → CardRest bs (written stopped p d d) × (card_shown (written stopped p d d) ≡ opened_at (card_places bs) shut p d)
+  exchange_done : (d : ℕ) → is_stroke d ≡ true → CardRest bs (with_byte stopped p d d) × (card_shown (with_byte stopped p d d) ≡ opened_at (card_places bs) shut p d)
   exchange_done d stroke =
       let place = (and_parts (is_place (card_places bs) p) _ (card_laws.within bs p c was)).0 in
       let ok : in_range (card_places stopped) p d ≡ true = rw same_places (and_from (is_place (card_places bs) p) (is_stroke d) place stroke) in
       let opens = letter_opens stopped p d ok in (
-        card_laws.joins bs stopped (written stopped p d d) stop.0 opens.0 (between_less _ _ _ _ stop.1 (closed_less (card_shown bs) p c)),
+        card_laws.joins bs stopped (with_byte stopped p d d) stop.0 opens.0 (between_less _ _ _ _ stop.1 (closed_less (card_shown bs) p c)),
         opens.1 ∙ ap₂ (λ n f. opened_at n f p d) same_places stop.1,
       )
 

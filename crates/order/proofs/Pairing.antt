@@ -2,7 +2,7 @@
 use Rattle.std.proofs.Common.{◌≡◌, ℕ, zero, suc, ◌+◌, ◌-◌, ◌*◌, ◌/◌, ◌%◌, ◌^◌, ◌<◌, ◌≤◌, min, false, ◌||◌, eqb, List, [], ◌∷◌, map, length, get_or, take, sym, refl, ap, ◌∙◌, subst, ⊎_elim, mul_assoc, add-mul, add_comm, arith}
 use mathlib.Core.Path.{fun_ext}
 use lib.Bits.{bit_xor, xor_shifted}
-use Rattle.std.specs.List.{AllByRecursion}
+use Rattle.std.specs.List.{AllByRecursion, list_any}
 use Rattle.std.proofs.lemmas.Nat.{pow-add, pow_below}
 use Rattle.std.proofs.ByRecursion.{All-get_or}
 use Rattle.std.proofs.lemmas.List.{length-map, get_or-map, get_or-take, length-take-le}
@@ -11,7 +11,7 @@ use Rattle.sheet.specs.Pairs.{in_range}
 use Rattle.sheet.specs.Masks.{bit, mask_shown, with_lower}
 use Rattle.sheet.proofs.Bits.{multiple_digit, bit_flip_same, bit_flip_other, zero_bit, lower_bit}
 use Rattle.sheet.proofs.Sets.{range_parts, and_when}
-use Rattle.order.specs.Letters.{Rises, Letters, mask_of, has}
+use Rattle.order.specs.Letters.{Rises, Letters, mask_of}
 use Rattle.order.specs.Texts.{filled, drawn_pairs}
 use Rattle.order.proofs.Lettering.{mask_small}
 
@@ -27,7 +27,7 @@ mask_multiple low (c ∷ cs) h r =
           ∙ sym (add-mul (2 ^ (c - low)) (more.0 * 2 ^ (c + 1 - low)) (2 ^ (low - 65))),
     )
 
-pub mask_bit : (low : ℕ) (ls : List ℕ) → 65 ≤ low → Rises low ls → (k : ℕ) → bit (mask_of ls) k ≡ has ls (65 + k)
+pub mask_bit : (low : ℕ) (ls : List ℕ) → 65 ≤ low → Rises low ls → (k : ℕ) → bit (mask_of ls) k ≡ list_any (λ l. eqb l (65 + k)) ls
 mask_bit low [] h r k = zero_bit k
 mask_bit low (c ∷ cs) h r k =
     let at = c - 65 in
@@ -40,7 +40,7 @@ mask_bit low (c ∷ cs) h r k =
     ap (λ m. bit m k) flip
     ∙ ⊎_elim
     (λ (e : k ≡ at). rw (e, bit_flip_same (mask_of cs) at, off, eq-eqb c (65 + at) (omega (arith, r.0))))
-    (λ n. bit_flip_other (mask_of cs) at k n ∙ more ∙ ap (λ b. b || has cs (65 + k)) (sym (ne_eqb c (65 + k) (λ e. n (omega (arith, r.0))))))
+    (λ n. bit_flip_other (mask_of cs) at k n ∙ more ∙ ap (λ b. b || list_any (λ l. eqb l (65 + k)) cs) (sym (ne_eqb c (65 + k) (λ e. n (omega (arith, r.0))))))
     (cases_eq k at)
 
 filled_size : (masks ms : List ℕ) → length (filled masks ms) ≡ length ms
@@ -70,4 +70,4 @@ filled_shown places ms n all few fits same = fun_ext (λ p. fun_ext (λ c.
     ap (λ m. bit m (c - 65)) (get_or-take n after (p - 1) 0 (omega arith) ∙ filled_here (map mask_of places) ms (p - 1) (simp length-map i) (omega arith) ∙ ap (with_lower (get_or ms (p - 1) 0)) is)
     ∙ lower_bit (get_or ms (p - 1) 0) (mask_of (get_or places (p - 1) [])) (c - 65) (mask_small _ letters) (omega (arith, at.2, at.3))
     ∙ mask_bit 65 (get_or places (p - 1) []) (omega arith) letters.1 (c - 65)
-    ∙ ap (has (get_or places (p - 1) [])) byte))))
+    ∙ ap (λ x. list_any (λ l. eqb l x) (get_or places (p - 1) [])) byte))))

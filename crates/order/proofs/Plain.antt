@@ -1,8 +1,9 @@
 -- A line of an order states one thing at the most: its letter tells the kind, and its fields tell the rest. Assumes nothing.
 use Rattle.std.proofs.Common.{◌≡◌, ℕ, ◌+◌, ◌<◌, List, [], ◌∷◌, decimal, sym, ap, ◌∙◌, subst, refl, inl, inr, arith}
 use Rattle.text.specs.Fields.{fielded, Short, Lacks}
-use Rattle.text.specs.Reading.{Known, Plain}
+use Rattle.text.specs.Reading.{Known}
 use Rattle.text.proofs.Letters.{clash}
+use Rattle.text.proofs.Endings.{Plain}
 use Rattle.text.proofs.Chaining.{fielded_unique, same_number, number_lacks}
 use Rattle.order.specs.declared.limits.Limit.{Limit}
 use Rattle.order.specs.declared.limits.Limit.TheVariants.{Time, Grade, Both}

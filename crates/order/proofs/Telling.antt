@@ -2,9 +2,10 @@
 use Rattle.std.proofs.Common.{◌≡◌, ℕ, ◌+◌, ◌<◌, ◌≤◌, List, [], ◌∷◌, ◌++◌, map, length, take, Some, Ok, Err, Result, sym, refl, ap, ◌∙◌, subst, ⊎_elim, append_assoc, append-nil, arith}
 use Rattle.std.specs.List.{AllByRecursion}
 use Rattle.std.proofs.lemmas.List.{length_push, length-map}
-use Rattle.refusal.specs.declared.Refusal.{Refusal}
+use Rattle.refusal.specs.declared.Source.TheVariants as source
 use Rattle.refusal.specs.declared.Fault.{Fault}
 use Rattle.text.specs.Reading.{Reads, Listed, Accepted, Ending, stated, refused, Ends}
+use Rattle.text.specs.Readings.{FaultOf}
 use Rattle.text.proofs.Endings.{apart, one_ending}
 use Rattle.text.proofs.Standing.{listed}
 use Rattle.order.specs.declared.limits.Limit.{Limit}
@@ -103,9 +104,6 @@ accepted_drawn text before o masks after a n fits e =
       pairs = subst (λ m. mask_shown (take o.places m) ≡ drawn_pairs ls) (sym memory) (filled_shown ls before o.places (listed_letters ls lines.1 lines.4) f.few (omega arith) (n ∙ size));
     }
 
-abbrev Failed : List ℕ → Fault → Type 0
-Failed text f = (r : Refusal) × (number : ℕ) × (f ≡ in_order r number) × Ends order_form text (refused r number)
-
 abbrev Short : List ℕ → List ℕ → Fault → Type 0
 Short text before f = (f ≡ too_short) × ((sum : Stated) × Ends order_form text (stated sum) × (length before < length sum.places))
 
@@ -116,7 +114,7 @@ one = one_ending order_form order_plain
 accepted_short : (text before : List ℕ) (f : Fault) (after : List ℕ) → Outcome text before (Err f) after → (sum : Stated) → Accepted order_form text sum → (f ≡ too_short) × (length before < length sum.places)
 accepted_short text before f after x sum h =
     ⊎_elim
-    (λ (y : Failed text f). absurd (apart sum y.0 y.1 (one text (stated sum) (refused y.0 y.1) h y.3)))
+    (λ (y : FaultOf order_form source.Order text f). absurd (apart sum y.0 y.1 (one text (stated sum) (refused y.0 y.1) h y.3)))
     (λ (y : Short text before f).
     let e = one text (stated y.1.0) (stated sum) y.1.1 h in
     let same : y.1.0 ≡ sum = cc in
@@ -134,7 +132,7 @@ only_ending text before (Ok o) after x (refused r n) h = apart (stated_with o.li
 only_ending text before (Err f) after x (stated sum) h = accepted_short text before f after x sum h
 only_ending text before (Err f) after x (refused r n) h =
     ⊎_elim
-    (λ (y : Failed text f).
+    (λ (y : FaultOf order_form source.Order text f).
     let e = one text (refused y.0 y.1) (refused r n) y.3 h in
     let e₁ : y.0 ≡ r = cc in
     let e₂ : y.1 ≡ n = cc in

@@ -1,5 +1,5 @@
 -- The open letters of a place: rising, and as the bits of a number. Assumes nothing.
-use Rattle.std.specs.Prelude.{ℕ, ◌+◌, ◌-◌, ◌^◌, ◌<◌, ◌≤◌, Bool, false, ◌||◌, List, [], ◌∷◌, length, ◌==◌}
+use Rattle.std.specs.Prelude.{ℕ, ◌+◌, ◌-◌, ◌^◌, ◌<◌, ◌≤◌, List, [], ◌∷◌, length}
 
 -- letters from low to Z, each after the one before it
 abbrev pub Rises : ℕ → List ℕ → Type 0
@@ -14,8 +14,3 @@ Letters ls = (0 < length ls) × Rises 65 ls
 abbrev pub mask_of : List ℕ → ℕ
 mask_of [] = 0
 mask_of (c ∷ cs) = 2 ^ (c - 65) + mask_of cs
-
--- whether c is one of the letters
-abbrev pub has : List ℕ → ℕ → Bool
-has [] c = false
-has (l ∷ ls) c = l == c || has ls c

@@ -1,5 +1,5 @@
 -- What the lines of an order's text state, and what is tested of them: the grammar is the written form. Assumes nothing.
-use Rattle.std.specs.Prelude.{◌≡◌, ℕ, ◌<◌, ◌≤◌, true, List, [], ◌∷◌, ◌++◌, length, is_some, Some, None, decimal, Option}
+use Rattle.std.specs.Prelude.{◌≡◌, ℕ, ◌<◌, ◌≤◌, List, [], ◌∷◌, ◌++◌, length, IsSome, Some, None, decimal, Option}
 use Rattle.refusal.specs.declared.Refusal.TheVariants.{LimitMisplaced, OutOfRange, TooManyPlaces}
 use Rattle.text.specs.Fields.{fielded, Short}
 use Rattle.text.specs.Reading.{Test, test, Form}
@@ -23,13 +23,13 @@ abbrev pub line_text : Said → List ℕ
 line_text (limit l) = limit_text l
 line_text (place letters) = 111 ∷ fielded (letters ∷ [])
 
--- numbers have at most six digits
+-- the numbers of a limit have at most six digits
 abbrev pub ShortLimit : Limit → Type 0
 ShortLimit (Time time) = Short time
 ShortLimit (Grade grade) = Short grade
 ShortLimit (Both time grade) = Short time × Short grade
 
--- letters are capital letters, one or more, rising
+-- numbers have at most six digits, and the letters of a place are capital letters, one or more, rising
 abbrev pub Spelled : Said → Type 0
 Spelled (limit l) = ShortLimit l
 Spelled (place letters) = Letters letters
@@ -50,18 +50,16 @@ pub record Stated : Type 0 where
   pub limit : Option Limit
   pub places : List ℕ
 
+-- what d states together with one line more: a limit is known from now on, the letters are those of the next place
 abbrev pub stated_after : Stated → Said → Stated
 stated_after d (limit l) = record { limit = Some l; places = d.places }
 stated_after d (place letters) = record { limit = d.limit; places = d.places ++ mask_of letters ∷ [] }
 
--- the limit is known
-abbrev pub LimitKnown : Stated → Type 0
-LimitKnown d = is_some d.limit ≡ true
-
--- in this order
+-- what is tested of a line after what d states, in this order: of a limit, that none stood before (18), and its grade (15); of a
+-- place, that the limit stood before (18), and that fewer than 16 places did (19)
 abbrev pub order_tests : Stated → Said → List Test
 order_tests d (limit l) = test (d.limit ≡ None) LimitMisplaced ∷ test (InRange l) OutOfRange ∷ []
-order_tests d (place letters) = test (LimitKnown d) LimitMisplaced ∷ test (length d.places < 16) TooManyPlaces ∷ []
+order_tests d (place letters) = test (IsSome d.limit) LimitMisplaced ∷ test (length d.places < 16) TooManyPlaces ∷ []
 
 -- the texts of orders: lines that begin with t, g, b or o
 abbrev pub order_form : Form Said Stated
@@ -71,5 +69,5 @@ order_form = record {
   tests = order_tests;
   adds = stated_after;
   blank = record { limit = None; places = [] };
-  last_tests = λ d. test (LimitKnown d) LimitMisplaced ∷ [];
+  last_tests = λ d. test (IsSome d.limit) LimitMisplaced ∷ [];
 }

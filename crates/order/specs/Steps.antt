@@ -25,7 +25,7 @@ stated_by d = record { limit = d.limit; places = d.masks.items }
 abbrev pub whole_stated : WholeOrder → Stated
 whole_stated w = stated_with w.limit w.masks.items
 
--- d takes the statement and becomes e, or is refused
+-- d takes the statement and becomes e, or is refused for the first test that fails and states what it stated
 abbrev pub Adds : OrderDraft → Said → Result (Unit {0}) Refusal → OrderDraft → Type 0
 Adds d said (Ok _) e = Passes (order_tests (stated_by d) said) × (stated_by e ≡ stated_after (stated_by d) said)
-Adds d said (Err r) e = Fails (order_tests (stated_by d) said) r
+Adds d said (Err r) e = Fails (order_tests (stated_by d) said) r × (stated_by e ≡ stated_by d)

@@ -1,16 +1,18 @@
 -- What a text says of an order, how its reading ends and what it leaves in the sheet's memory. Assumes nothing.
-use Rattle.std.specs.Prelude.{◌≡◌, ℕ, ◌-◌, ◌<◌, ◌≤◌, ◌&&◌, ◌⊎◌, List, [], ◌∷◌, map, length, take, Some, Ok, Err, Result, slice_index_or}
+use Rattle.std.specs.Prelude.{◌≡◌, ℕ, ◌-◌, ◌<◌, ◌≤◌, ◌&&◌, ◌⊎◌, List, [], ◌∷◌, map, length, take, Some, Ok, Err, Result, ◌==◌, slice_index_or}
+use Rattle.std.specs.List.{list_any}
 use Rattle.refusal.specs.declared.Refusal.{Refusal}
 use Rattle.refusal.specs.declared.Refusal.TheVariants.{LentTooShort}
 use Rattle.refusal.specs.declared.Source.TheVariants as source
 use Rattle.refusal.specs.declared.Fault.{Fault}
 use Rattle.refusal.specs.Faults.{on_sheet, in_text}
 use Rattle.text.specs.Reading.{Listed, Ending, stated, refused, Ends}
+use Rattle.text.specs.Readings.{FaultOf}
 use Rattle.sheet.specs.Pairs.{Pairs, in_range}
 use Rattle.sheet.specs.Masks.{mask_shown, with_lower}
 use Rattle.order.specs.declared.limits.Limit.{Limit}
 use Rattle.order.specs.declared.Order.{Order}
-use Rattle.order.specs.Letters.{mask_of, has}
+use Rattle.order.specs.Letters.{mask_of}
 use Rattle.order.specs.Statements.{limit, place, InRange, Stated, order_form}
 
 -- The text is the line of the limit and then a line for each place with its open letters.
@@ -28,7 +30,7 @@ filled (mask ∷ masks) (m ∷ ms) = with_lower m mask ∷ filled masks ms
 
 -- the pairs of a place and one of its letters
 abbrev pub drawn_pairs : List (List ℕ) → Pairs
-drawn_pairs places p c = in_range (length places) p c && has (slice_index_or places (p - 1) []) c
+drawn_pairs places p c = in_range (length places) p c && list_any (λ l. l == c) (slice_index_or places (p - 1) [])
 
 -- the refusal at a line of an order's text
 abbrev pub in_order : Refusal → ℕ → Fault
@@ -48,7 +50,7 @@ abbrev pub Outcome : List ℕ → List ℕ → Result Order Fault → List ℕ �
 Outcome text before (Ok o) after =
     (masks : List ℕ) × Ends order_form text (stated (stated_with o.limit masks)) × (o.places ≡ length masks) × (length masks ≤ length before) × (after ≡ filled masks before)
 Outcome text before (Err f) after =
-    (((r : Refusal) × (number : ℕ) × (f ≡ in_order r number) × Ends order_form text (refused r number))
+    (FaultOf order_form source.Order text f
     ⊎ ((f ≡ too_short) × ((sum : Stated) × Ends order_form text (stated sum) × (length before < length sum.places))))
     × (after ≡ before)
 

@@ -14,6 +14,8 @@ source_layer source.Sheet = layer.Sheet
 source_layer source.Book = layer.Book
 source_layer source.Order = layer.Order
 
+-- the layer of a refusal: the sheet's for 1 to 10 and for want of memory, the reader's for 11 to 13, and from 14 on that of
+-- what was read
 abbrev pub layer_of : Refusal → Source → Layer
 layer_of NoSuchPlace s = layer.Sheet
 layer_of NotAStroke s = layer.Sheet

@@ -6,14 +6,13 @@ use Rattle.text.specs.Lines.{FaultyLine}
 use Rattle.book.specs.declared.books.Book.{Book}
 use Rattle.book.specs.Texts.{Tells, Outcome}
 use Rattle.book.specs.Writing.{book_text}
-use Rattle.refusal.specs.declared.Refusal.{Refusal}
-use Rattle.text.specs.Reading.{refused, Ends}
+use Rattle.text.specs.Readings.{FaultOf}
 use Rattle.sheet.specs.Pairs.{Pairs}
 use Rattle.order.specs.declared.limits.Limit.{Limit}
 use Rattle.order.specs.Limits.{limit_name}
 use Rattle.order.specs.Statements.{order_form}
 use Rattle.order.specs.Texts as order
-use Rattle.order.specs.Texts.{drawn_pairs, in_order}
+use Rattle.order.specs.Texts.{drawn_pairs}
 use Rattle.report.specs.Sheets.{sheet_text}
 use Rattle.refusal.specs.declared.Source.{Source}
 use Rattle.refusal.specs.declared.Source.TheVariants as source
@@ -47,7 +46,7 @@ order_summary l f n = (codes "limit " ++ (limit_name l ++ codes "\n")) ++ sheet_
 -- the text tells an order, whose summary is printed; or it is refused, and that is printed; or there is no memory for a report
 abbrev pub OrderReport : {Z : Type 0} → List ℕ → Result (Vec ℕ Z) ReportError → Type 0
 OrderReport text (Ok v) = (l : Limit) × (places : List (List ℕ)) × order.Tells text l places × (vec_items v ≡ order_summary l (drawn_pairs places) (length places))
-OrderReport text (Err (Refused s v)) = (s ≡ source.Order) × ((f : Fault) × ((r : Refusal) × (number : ℕ) × (f ≡ in_order r number) × Ends order_form text (refused r number)) × FaultShown [] text f (vec_items v))
+OrderReport text (Err (Refused s v)) = (s ≡ source.Order) × ((f : Fault) × FaultOf order_form source.Order text f × FaultShown [] text f (vec_items v))
 OrderReport text (Err OutOfMemory) = Unit {0}
 
 -- what is printed of a report, also of a refusal
@@ -57,12 +56,12 @@ printed (Err (Refused s v)) = vec_items v
 printed (Err OutOfMemory) = []
 
 -- what is refused, as an error says it
-abbrev pub refused_text : Source → List ℕ
-refused_text source.Sheet = codes "the sheet is refused"
-refused_text source.Book = codes "the book is refused"
-refused_text source.Order = codes "the order is refused"
+abbrev pub source_refused_text : Source → List ℕ
+source_refused_text source.Sheet = codes "the sheet is refused"
+source_refused_text source.Book = codes "the book is refused"
+source_refused_text source.Order = codes "the order is refused"
 
 -- the error that a program ends with
 abbrev pub error_text : ReportError → List ℕ
-error_text (Refused s v) = refused_text s
+error_text (Refused s v) = source_refused_text s
 error_text OutOfMemory = codes "memory allocation failed"

@@ -10,10 +10,11 @@ use Rattle.scale.specs.declared.prices.time_grades.TimeGrade.{TimeGrade}
 abbrev pub both_open : ℕ → ℕ → Bool
 both_open t g = nat_lt t barred_tenths && nat_lt g barred_level
 
--- the tenths and the level of the pair of t and g: their own where both are open, and otherwise the barred ones
+-- the tenths of the pair of t and g: t where both are open, and otherwise the barred number
 abbrev pub tenths_of : ℕ → ℕ → ℕ
 tenths_of t g = if both_open t g then t else barred_tenths
 
+-- the level of that pair: g where both are open, and otherwise the barred number
 abbrev pub level_of : ℕ → ℕ → ℕ
 level_of t g = if both_open t g then g else barred_level
 

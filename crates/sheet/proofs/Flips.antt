@@ -1,10 +1,10 @@
 -- Masks with the bit of one pair turned over: the pair is turned over, and nothing else changed.
-use Rattle.std.proofs.Common.{◌≡◌, ℕ, ◌-◌, ◌≤◌, true, false, cond, not, ◌&&◌, List, get_or, sym, refl, ap, ◌∙◌, ⊎_elim, arith}
+use Rattle.std.proofs.Common.{◌≡◌, ℕ, ◌-◌, ◌≤◌, true, cond, not, ◌&&◌, List, get_or, sym, refl, ap, ◌∙◌, ⊎_elim, arith}
 use Rattle.std.proofs.lemmas.Bool.{and_parts, and_right, cases_eq, eq-eqb, ne_eqb}
-use Rattle.sheet.specs.Pairs.{is_place, in_range, same_pair, closed_at, opened_at, turned_at}
+use Rattle.sheet.specs.Pairs.{is_place, in_range, same_pair, closed_at, turned_at}
 use Rattle.sheet.specs.Masks.{mask_places, mask_shown, flipped, Rest}
 use Rattle.sheet.specs.MaskLaws.{mask_laws}
-use Rattle.sheet.proofs.Sets.{range_parts, and_when, turned_closed, turned_opened}
+use Rattle.sheet.proofs.Sets.{range_parts, and_when, turned_closed}
 use Rattle.sheet.proofs.Bits.{bit_flip_same, bit_flip_other, flip_above}
 use Rattle.sheet.proofs.Replacing.{replaced_rest, replaced_shown}
 
@@ -39,8 +39,3 @@ pub flip_closes : (ms : List ℕ) (p c : ℕ) → mask_shown ms p c ≡ true →
 flip_closes ms p c was =
     let done = flip_turns ms p c (mask_laws.within ms p c was) in
     (done.0, done.1 ∙ turned_closed (mask_places ms) (mask_shown ms) p c was)
-
-pub flip_opens : (ms : List ℕ) (p c : ℕ) → in_range (mask_places ms) p c ≡ true → mask_shown ms p c ≡ false → Rest ms (flipped ms p c) × (mask_shown (flipped ms p c) ≡ opened_at (mask_places ms) (mask_shown ms) p c)
-flip_opens ms p c ok was =
-    let done = flip_turns ms p c ok in
-    (done.0, done.1 ∙ turned_opened (mask_places ms) (mask_shown ms) p c was)

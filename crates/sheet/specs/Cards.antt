@@ -15,8 +15,8 @@ abbrev pub card_shown : List ℕ → Pairs
 card_shown bs p c = in_range (card_places bs) p c && slice_index bs (cell p c) == c
 
 -- the text with the byte v in the cell of one pair
-abbrev pub written : List ℕ → ℕ → ℕ → ℕ → List ℕ
-written bs p c v = slice_set bs (cell p c) v
+abbrev pub with_byte : List ℕ → ℕ → ℕ → ℕ → List ℕ
+with_byte bs p c v = slice_set bs (cell p c) v
 
 -- what a cell holds that held a byte: its letter c if it is open, else a full stop if it was open, else that byte
 abbrev pub redrawn : Bool → Bool → ℕ → ℕ → ℕ

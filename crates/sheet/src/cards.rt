@@ -1,7 +1,7 @@
 // Sheets on a card: a text of rows of 27 bytes, one for each place, with a column for each stroke.
 ghost use Rattle.std.specs.Prelude.{◌≡◌, true, if◌then◌else◌};
 ghost use Rattle.sheet.specs.Pairs.{in_range};
-ghost use Rattle.sheet.specs.Cards.{card_places, card_shown, written, CardRest};
+ghost use Rattle.sheet.specs.Cards.{card_places, card_shown, with_byte, CardRest};
 ghost use Rattle.sheet.specs.CardLaws.{card_laws};
 
 use crate::{Cell, LentSheet, in_range};
@@ -20,7 +20,7 @@ impl Cell for u8 {
     ghost kept = { CardRest };
 
     // the column of the pair holds a full stop if it held its letter, and else its letter
-    ghost turned = { λ bs p c. written bs p c (if card_shown bs p c then 46 else c) };
+    ghost turned = { λ bs p c. with_byte bs p c (if card_shown bs p c then 46 else c) };
 
     ghost laws = { card_laws };
 
@@ -46,7 +46,7 @@ impl Cell for u8 {
 // Writes a full stop into the column of the stroke if it holds its letter, and else its letter.
 fn write(card: &mut [u8], place: usize, stroke: u8)
     requires { in_range (card_places card.old) place stroke ≡ true }
-    ensures { card.new ≡ written card.old place stroke (if card_shown card.old place stroke then 46 else stroke) }
+    ensures { card.new ≡ with_byte card.old place stroke (if card_shown card.old place stroke then 46 else stroke) }
 {
     let at = (place - 1) * 27 + (stroke - b'A') as usize;
     card[at] = if card[at] == stroke { b'.' } else { stroke };

@@ -4,8 +4,17 @@ use Rattle.refusal.specs.declared.Refusal.{Refusal}
 use Rattle.refusal.specs.declared.Refusal.TheVariants.{TextTooLong, UnknownLine, MalformedField}
 use Rattle.text.specs.Fields.{Lacks}
 use Rattle.text.specs.Lines.{Starts}
-use Rattle.text.specs.Reading.{Test, Passes, Fails, Form, Known, Leads, Reads, LineRefused, Refused, RefusedAt, stated, refused, Ends, Plain, OneEnding}
+use Rattle.text.specs.Reading.{Test, Passes, Fails, Form, Known, Leads, Reads, LineRefused, Refused, RefusedAt, Ending, stated, refused, Ends}
 use Rattle.text.proofs.Cutting.{starts_unique, starts_has, starts_shorter}
+
+-- a line states one thing at the most, and then its first letter is one of the form's
+pub record Plain {Said Sum : Type 0} (form : Form Said Sum) : Type 0 where
+  pub once : (line : List ℕ) (one two : Said) → form.states line one → form.states line two → one ≡ two
+  pub known : (line : List ℕ) (said : Said) → form.states line said → Known form.letters line
+
+-- a text is read in one way only
+abbrev pub OneEnding : {Said Sum : Type 0} → Form Said Sum → Type 0
+OneEnding {Sum = Sum} form = (text : List ℕ) (one two : Ending Sum) → Ends form text one → Ends form text two → one ≡ two
 
 pub fails_unique : (ts : List Test) (r q : Refusal) → Fails ts r → Fails ts q → r ≡ q
 fails_unique [] r q f g = absurd f

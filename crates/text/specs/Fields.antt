@@ -18,7 +18,7 @@ Writes ds n = (decimal n ≡ ds) × Short n
 abbrev pub Lacks : ℕ → List ℕ → Type 0
 Lacks m bs = AllByRecursion (λ b. b ≢ m) bs
 
--- nothing, or m first
+-- what may follow bytes that m ends: nothing, or what begins with m
 abbrev pub Ended : ℕ → List ℕ → Type 0
 Ended m [] = Unit {0}
 Ended m (b ∷ bs) = b ≡ m

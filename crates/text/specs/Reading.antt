@@ -11,6 +11,7 @@ pub record Test : Type 1 where
   pub holds : Type 0
   pub refusal : Refusal
 
+-- the test that p holds, and else r is the refusal
 abbrev pub test : Type 0 → Refusal → Test
 test p r = record { holds = p; refusal = r }
 
@@ -120,12 +121,3 @@ pub data Ending (Sum : Type 0) : Type 0 where
 abbrev pub Ends : {Said Sum : Type 0} → Form Said Sum → List ℕ → Ending Sum → Type 0
 Ends form text (stated sum) = Accepted form text sum
 Ends form text (refused r number) = ((8192 < length text) × (TextTooLong ≡ r) × (0 ≡ number)) ⊎ RefusedAt form text r number
-
--- a line states one thing at the most, and then its first letter is one of the form's
-pub record Plain {Said Sum : Type 0} (form : Form Said Sum) : Type 0 where
-  pub once : (line : List ℕ) (one two : Said) → form.states line one → form.states line two → one ≡ two
-  pub known : (line : List ℕ) (said : Said) → form.states line said → Known form.letters line
-
--- a text is read in one way only
-abbrev pub OneEnding : {Said Sum : Type 0} → Form Said Sum → Type 0
-OneEnding {Sum = Sum} form = (text : List ℕ) (one two : Ending Sum) → Ends form text one → Ends form text two → one ≡ two

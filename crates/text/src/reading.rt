@@ -1,5 +1,5 @@
 // A text read line by line, for any form of lines.
-ghost use Rattle.std.specs.Prelude.{◌≡◌, ◌<◌, length, MatchResult};
+ghost use Rattle.std.specs.Prelude.{◌≡◌, ◌<◌, length, OnErr, MatchResult};
 ghost use Rattle.text.specs.Reading.{Form, Leads};
 ghost use Rattle.text.specs.Readings.{fault_at, Takes, Refuses, RestRefuses, Finishes, ReadAs};
 
@@ -27,9 +27,10 @@ pub trait Draft: Drop {
     // for which statements there may be no memory
     ghost wants_memory: { Said → Type 0 };
 
-    // Takes what one more line states, or refuses the line.
+    // Takes what one more line states, or refuses the line and states what it stated.
     fn take(&mut self, line: &[u8]) -> Result<(), Refusal>
-        ensures { MatchResult result (λ _. Takes form (stated self.old) line.now (stated self.new)) (Refuses form wants_memory (stated self.old) line.now) };
+        ensures answer { MatchResult result (λ _. Takes form (stated self.old) line.now (stated self.new)) (Refuses form wants_memory (stated self.old) line.now) }
+        ensures refused { OnErr result (stated self.new ≡ stated self.old) };
 
     // What the text states that ends here, or why it is refused.
     fn finish(self) -> Result<Self::Whole, Refusal>

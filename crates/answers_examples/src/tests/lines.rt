@@ -72,7 +72,7 @@ fn not_ended(rt: HostRuntime) -> Result<(), Fail> {
     )
 }
 
-// The slips of the lines after it are those of a day without it.
+// The slips of the lines after it are those of a text without it.
 #[test]
 fn among_events(rt: HostRuntime) -> Result<(), Fail> {
     told(

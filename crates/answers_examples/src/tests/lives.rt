@@ -1,4 +1,4 @@
-// Whole days at the sheet of the jig order.
+// Whole lives of the sheet of the jig order.
 use super::{JIG_TIMES, told};
 use std::test::Fail;
 
@@ -70,7 +70,7 @@ fn strikes_that_are_refused(rt: HostRuntime) -> Result<(), Fail> {
 }
 
 #[test]
-fn a_day_without_an_event(rt: HostRuntime) -> Result<(), Fail> {
+fn a_life_without_an_event(rt: HostRuntime) -> Result<(), Fail> {
     told(&rt, rt.alloc(), JIG_TIMES, b"", b"")
 }
 
