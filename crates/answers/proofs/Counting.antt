@@ -18,7 +18,7 @@ use Rattle.events.proofs.Answering.{answered_ok}
 use Rattle.marks.specs.Replays.{each_lent}
 use Rattle.answers.specs.declared.lines.EventLine.{EventLine}
 use Rattle.answers.specs.declared.lines.EventLine.TheVariants.{Strike, Mark, Keep, Back, Prune, Quote}
-use Rattle.answers.specs.Slips.{day_sheet, event_of, marks_after, events_of}
+use Rattle.answers.specs.Slips.{office_sheet_number, event_of, marks_after, events_of}
 use Rattle.answers.specs.Counts.{marks_left, MarksCounted}
 
 fewer : {A : Type 0} (xs : List A) → length (earlier xs) ≡ length xs - 1
@@ -40,11 +40,11 @@ module _ {S : Type 0} (s next : State) (answer : Result (Accepted S) Refusal) wh
   one_ended said true after e none l = ap (λ (st : State). length st.saved) l.1 ∙ e
   one_ended said false after e none l = omega (arith, ap (λ (st : State). length st.saved) l.1, none refl)
 
--- a slip of the day's sheet and of as many marks as stand fits, unless none stands
-slip_fits : (number marks : ℕ) → number ≡ day_sheet → fits number marks day_sheet marks ≡ false → marks ≡ 0
+-- a slip of the office's sheet and of as many marks as stand fits, unless none stands
+slip_fits : (number marks : ℕ) → number ≡ office_sheet_number → fits number marks office_sheet_number marks ≡ false → marks ≡ 0
 slip_fits number marks e h = grind (arith, nat_tests)
 
-module _ {S : Type 0} (o : Ops S) (w : Setting S) (one : w.number ≡ day_sheet) (lent : Lent) where
+module _ {S : Type 0} (o : Ops S) (w : Setting S) (one : w.number ≡ office_sheet_number) (lent : Lent) where
   pruned_marks : (s next : State) (limit : S) (a : Accepted S) → Prunes o w s limit next a → next.saved ≡ s.saved
   pruned_marks s next limit (Pruned p) h = h.1
   pruned_marks s next limit Done h = absurd h

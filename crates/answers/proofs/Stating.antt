@@ -11,7 +11,7 @@ use Rattle.answers.specs.declared.lines.EventLine.TheVariants.{Strike, Prune, Qu
 use Rattle.answers.specs.declared.words.Word.{Word}
 use Rattle.answers.specs.declared.words.Word.TheVariants as word
 use Rattle.answers.specs.Words.{Begins}
-use Rattle.answers.specs.Notations.{Notation, Writes}
+use Rattle.answers.specs.Notations.{Notation, WritesLimit}
 use Rattle.answers.specs.Lines.{StrikeFields, RestStates, States, LineRead, OneReading}
 use Rattle.answers.proofs.Wording.{begins_once}
 
@@ -64,13 +64,13 @@ numbered_once ns ms f g =
 
 module _ {S : Type 0} (notation : Notation S) where
   -- what follows the word of a prune or a quote, and writes no limit
-  pub no_prune : {rest : List ℕ} → ((limit : S) → Writes notation rest limit → ⊥) → (said : EventLine S) → RestStates notation word.Prune rest said → ⊥
+  pub no_prune : {rest : List ℕ} → ((limit : S) → WritesLimit notation rest limit → ⊥) → (said : EventLine S) → RestStates notation word.Prune rest said → ⊥
   no_prune none said h = none h.0 h.1
 
-  pub no_quote : {rest : List ℕ} → ((limit : S) → Writes notation rest limit → ⊥) → (said : EventLine S) → RestStates notation word.Quote rest said → ⊥
+  pub no_quote : {rest : List ℕ} → ((limit : S) → WritesLimit notation rest limit → ⊥) → (said : EventLine S) → RestStates notation word.Quote rest said → ⊥
   no_quote none said h = none h.0 h.1
 
-  writes_once : {rest : List ℕ} (a b : S) → Writes notation rest a → Writes notation rest b → a ≡ b
+  writes_once : {rest : List ℕ} (a b : S) → WritesLimit notation rest a → WritesLimit notation rest b → a ≡ b
   writes_once a b f g = f.means ∙ ap notation.limit (numbered_once f.numbers g.numbers f.fields g.fields) ∙ sym g.means
 
   rest_once : (w : Word) (rest : List ℕ) (one two : EventLine S) → RestStates notation w rest one → RestStates notation w rest two → one ≡ two

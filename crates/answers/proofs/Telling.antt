@@ -1,4 +1,4 @@
--- What is printed so far of a day, before the text of the lines that are left. Assumes nothing.
+-- What is printed so far, before what is printed of the lines that are left. Assumes nothing.
 use Rattle.std.proofs.Common.{◌≡◌, ℕ, zero, suc, ◌+◌, ◌<◌, ◌≤◌, List, [], ◌∷◌, ◌++◌, map, length, get_or, drop, Result, Ok, Err, subst, refl, sym, ap, ◌∙◌, append_assoc, append-nil, add-one, arith}
 use Rattle.std.proofs.Math.Seq.{drop-cons}
 use Rattle.std.proofs.lemmas.List.{drop_all, length-map, get_or-map}
@@ -7,10 +7,10 @@ use Rattle.events.specs.declared.Event.{Event}
 use Rattle.events.specs.declared.Accepted.{Accepted}
 use Rattle.answers.specs.declared.lines.EventLine.{EventLine}
 use Rattle.answers.specs.Notations.{Notation}
-use Rattle.answers.specs.Days.{DayLine, event, refused, reading_of, Cut, Lined}
+use Rattle.answers.specs.Texts.{EventTextLine, event, refused, reading_of, FirstLineOf, Lined}
 use Rattle.answers.specs.Slips.{marks_after, events_of}
 use Rattle.answers.specs.Paragraphs.{answer_text}
-use Rattle.answers.specs.DayTexts.{paragraphs, line_text, day_text}
+use Rattle.answers.specs.Reports.{paragraphs, refused_line_text, printed_text}
 use Rattle.answers.proofs.Lining.{cut_event, cut_refused}
 
 -- the item at i is the first of what is left from i on
@@ -42,40 +42,41 @@ module _ {S : Type 0} where
   count_refused readings i r h e = ap count_events (next readings i (Err r) h e)
 
   -- a line by how it is read
-  is_event : (l : DayLine S) (said : EventLine S) → Ok said ≡ reading_of l → event said ≡ l
+  is_event : (l : EventTextLine S) (said : EventLine S) → Ok said ≡ reading_of l → event said ≡ l
   is_event (event other) said e = let same : said ≡ other = cc in ap event same
   is_event (refused r bytes) said e = absurd (cc)
 
-  is_refused : (l : DayLine S) (r : Refusal) → Err r ≡ reading_of l → (bytes : List ℕ) × (refused r bytes ≡ l)
+  is_refused : (l : EventTextLine S) (r : Refusal) → Err r ≡ reading_of l → (bytes : List ℕ) × (refused r bytes ≡ l)
   is_refused (event said) r e = absurd (cc)
   is_refused (refused q bytes) r e = let same : r ≡ q = cc in (bytes, ap (λ x. refused x bytes) same)
 
-  read_at : (lines : List (DayLine S)) (readings : List (Result (EventLine S) Refusal)) (i : ℕ) (r : Result (EventLine S) Refusal) (d : DayLine S) → readings ≡ map reading_of lines → i < length readings → r ≡ get_or readings i r → (i < length lines) × (r ≡ reading_of (get_or lines i d))
+  read_at : (lines : List (EventTextLine S)) (readings : List (Result (EventLine S) Refusal)) (i : ℕ) (r : Result (EventLine S) Refusal) (d : EventTextLine S) → readings ≡ map reading_of lines → i < length readings → r ≡ get_or readings i r → (i < length lines) × (r ≡ reading_of (get_or lines i d))
   read_at lines readings i r d e h is =
       let lt : i < length lines = omega (arith, ap length e, length-map lines reading_of) in
       (lt, is ∙ ap (λ rs. get_or rs i r) e ∙ get_or-map reading_of lines i d r lt)
 
-module _ {S : Type 0} (notation : Notation S) where
+module _ {S : Type 0} (price_text : S → List ℕ) where
   -- a paragraph of an event and its answer
-  pub paragraph_at : (places : ℕ) (events : List (Event S)) (answers : List (Result (Accepted S) Refusal)) (k : ℕ) (e : Event S) (a : Result (Accepted S) Refusal) → k < length events → k < length answers → e ≡ get_or events k e → a ≡ get_or answers k a → drop k (paragraphs notation places events answers) ≡ answer_text notation places e a ∷ drop (k + 1) (paragraphs notation places events answers)
+  pub paragraph_at : (places : ℕ) (events : List (Event S)) (answers : List (Result (Accepted S) Refusal)) (k : ℕ) (e : Event S) (a : Result (Accepted S) Refusal) → k < length events → k < length answers → e ≡ get_or events k e → a ≡ get_or answers k a → drop k (paragraphs price_text places events answers) ≡ answer_text price_text places e a ∷ drop (k + 1) (paragraphs price_text places events answers)
   paragraph_at places [] answers k e a h i p q = absurd (omega arith)
   paragraph_at places (f ∷ events) [] k e a h i p q = absurd (omega arith)
-  paragraph_at places (f ∷ events) (b ∷ answers) zero e a h i p q = λ j. answer_text notation places (sym p j) (sym q j) ∷ paragraphs notation places events answers
+  paragraph_at places (f ∷ events) (b ∷ answers) zero e a h i p q = λ j. answer_text price_text places (sym p j) (sym q j) ∷ paragraphs price_text places events answers
   paragraph_at places (f ∷ events) (b ∷ answers) (suc k) e a h i p q =
       paragraph_at places events answers k e a (omega arith) (omega arith) p q
-      ∙ (λ j. answer_text notation places e a ∷ drop (one j) (answer_text notation places f b ∷ paragraphs notation places events answers))
+      ∙ (λ j. answer_text price_text places e a ∷ drop (one j) (answer_text price_text places f b ∷ paragraphs price_text places events answers))
     where
       one : suc (k + 1) ≡ suc k + 1
       one = omega arith
 
+module _ {S : Type 0} (notation : Notation S) where
   module _ (text : List ℕ) (readings : List (Result (EventLine S) Refusal)) (told : List (List ℕ)) where
-    -- the text from its line i on is `rest`, and what is printed so far, with the text of the lines from i on and the paragraphs
-    -- from k on, is the text of the day
+    -- the text from its line i on is `rest`, and what is printed so far, with what is printed of the lines from i on and the
+    -- paragraphs from k on, is what is printed of them all
     abbrev pub ToldSofar : List ℕ → List ℕ → ℕ → ℕ → Type 0
     ToldSofar rest out i k =
-        (lines : List (DayLine S)) → Lined notation text lines → readings ≡ map reading_of lines → Lined notation rest (drop i lines) × (out ++ day_text (i + 1) (drop i lines) (drop k told) ≡ day_text 1 lines told)
+        (lines : List (EventTextLine S)) → Lined notation text lines → readings ≡ map reading_of lines → Lined notation rest (drop i lines) × (out ++ printed_text (i + 1) (drop i lines) (drop k told) ≡ printed_text 1 lines told)
 
-    module _ (rest line after : List ℕ) (cut : Cut rest line after) (i k : ℕ) (h : i < length readings) (out : List ℕ) (s : ToldSofar rest out i k) where
+    module _ (rest line after : List ℕ) (cut : FirstLineOf rest line after) (i k : ℕ) (h : i < length readings) (out : List ℕ) (s : ToldSofar rest out i k) where
       pub event_told : (paragraph : List ℕ) (said : EventLine S) → Ok said ≡ get_or readings i (Ok said) → drop k told ≡ paragraph ∷ drop (k + 1) told → ToldSofar after (out ++ paragraph) (i + 1) (k + 1)
       event_told paragraph said is p lines l e =
           let at = read_at lines readings i (Ok said) (event said) e h is in
@@ -83,10 +84,10 @@ module _ {S : Type 0} (notation : Notation S) where
           let sofar = s lines l e in
           let left = subst (Lined notation rest) here sofar.0 in (
             subst (λ t. Lined notation t (drop (i + 1) lines)) (cut_event notation rest said left.0 line after left.1 cut) left.2,
-            append_assoc out paragraph (day_text (i + 1 + 1) (drop (i + 1) lines) (drop (k + 1) told)) ∙ (λ j. out ++ day_text (i + 1) (sym here j) (sym p j)) ∙ sofar.1,
+            append_assoc out paragraph (printed_text (i + 1 + 1) (drop (i + 1) lines) (drop (k + 1) told)) ∙ (λ j. out ++ printed_text (i + 1) (sym here j) (sym p j)) ∙ sofar.1,
           )
 
-      pub refused_told : (printed : List ℕ) (r : Refusal) → Err r ≡ get_or readings i (Err r) → printed ≡ line_text r (i + 1) line → ToldSofar after (out ++ printed) (i + 1) k
+      pub refused_told : (printed : List ℕ) (r : Refusal) → Err r ≡ get_or readings i (Err r) → printed ≡ refused_line_text r (i + 1) line → ToldSofar after (out ++ printed) (i + 1) k
       refused_told printed r is p lines l e =
           let at = read_at lines readings i (Err r) (refused r []) e h is in
           let b = is_refused _ r at.1 in
@@ -94,15 +95,15 @@ module _ {S : Type 0} (notation : Notation S) where
           let sofar = s lines l e in
           let left = subst (Lined notation rest) here sofar.0 in
           let same = cut_refused notation rest r b.0 left.0 line after left.1 cut in
-          let print : printed ≡ line_text r (i + 1) b.0 = p ∙ ap (line_text r (i + 1)) (sym same.0) in (
+          let print : printed ≡ refused_line_text r (i + 1) b.0 = p ∙ ap (refused_line_text r (i + 1)) (sym same.0) in (
             subst (λ t. Lined notation t (drop (i + 1) lines)) same.1 left.2,
-            (λ j. (out ++ print j) ++ day_text (i + 1 + 1) (drop (i + 1) lines) (drop k told))
-                ∙ append_assoc out (line_text r (i + 1) b.0) (day_text (i + 1 + 1) (drop (i + 1) lines) (drop k told))
-                ∙ (λ j. out ++ day_text (i + 1) (sym here j) (drop k told))
+            (λ j. (out ++ print j) ++ printed_text (i + 1 + 1) (drop (i + 1) lines) (drop k told))
+                ∙ append_assoc out (refused_line_text r (i + 1) b.0) (printed_text (i + 1 + 1) (drop (i + 1) lines) (drop k told))
+                ∙ (λ j. out ++ printed_text (i + 1) (sym here j) (drop k told))
                 ∙ sofar.1,
           )
 
-    pub all_told : (rest out : List ℕ) (i k : ℕ) → length readings ≤ i → ToldSofar rest out i k → (lines : List (DayLine S)) → Lined notation text lines → readings ≡ map reading_of lines → out ≡ day_text 1 lines told
+    pub all_told : (rest out : List ℕ) (i k : ℕ) → length readings ≤ i → ToldSofar rest out i k → (lines : List (EventTextLine S)) → Lined notation text lines → readings ≡ map reading_of lines → out ≡ printed_text 1 lines told
     all_told rest out i k h s lines l e =
         let end = drop_all i lines (omega (arith, ap length e, length-map lines reading_of)) in
-        sym (append-nil out) ∙ (λ j. out ++ day_text (i + 1) (sym end j) (drop k told)) ∙ (s lines l e).1
+        sym (append-nil out) ∙ (λ j. out ++ printed_text (i + 1) (sym end j) (drop k told)) ∙ (s lines l e).1

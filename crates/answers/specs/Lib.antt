@@ -1,9 +1,9 @@
 pub mod Words
 pub mod Notations
 pub mod Lines
-pub mod Days
+pub mod Texts
 pub mod Slips
 pub mod Paragraphs
-pub mod DayTexts
+pub mod Reports
 pub mod Offices
 pub mod Counts

@@ -8,7 +8,7 @@ use Rattle.answers.specs.declared.lines.EventLine.TheVariants.{Strike, Mark, Kee
 use Rattle.answers.specs.declared.words.Word.{Word}
 use Rattle.answers.specs.declared.words.Word.TheVariants as word
 use Rattle.answers.specs.Words.{Begins}
-use Rattle.answers.specs.Notations.{Notation, Writes}
+use Rattle.answers.specs.Notations.{Notation, WritesLimit}
 
 -- rest is just these two fields
 pub record StrikeFields (rest : List ℕ) (place stroke : ℕ) : Type 0 where
@@ -16,15 +16,24 @@ pub record StrikeFields (rest : List ℕ) (place stroke : ℕ) : Type 0 where
   pub short : Short place
   pub is_stroke : Stroke stroke
 
+module _ {S : Type 0} where
+  -- no field follows, and this event without fields is stated
+  abbrev pub BareStates : EventLine S → List ℕ → EventLine S → Type 0
+  BareStates event rest said = (rest ≡ []) × (said ≡ event)
+
+  -- how what follows the word of such an event is read
+  abbrev pub BareRead : EventLine S → List ℕ → Option (EventLine S) → Type 0
+  BareRead event rest o = MatchOption o ((said : EventLine S) → BareStates event rest said → ⊥) (λ said. BareStates event rest said)
+
 module _ {S : Type 0} (notation : Notation S) where
   -- what follows that word states it: a place and a stroke, nothing, or a limit
   abbrev pub RestStates : Word → List ℕ → EventLine S → Type 0
   RestStates word.Strike rest said = (place : ℕ) × (stroke : ℕ) × StrikeFields rest place stroke × (said ≡ Strike place stroke)
-  RestStates word.Mark rest said = (rest ≡ []) × (said ≡ Mark)
-  RestStates word.Keep rest said = (rest ≡ []) × (said ≡ Keep)
-  RestStates word.Back rest said = (rest ≡ []) × (said ≡ Back)
-  RestStates word.Prune rest said = (limit : S) × Writes notation rest limit × (said ≡ Prune limit)
-  RestStates word.Quote rest said = (limit : S) × Writes notation rest limit × (said ≡ Quote limit)
+  RestStates word.Mark rest said = BareStates Mark rest said
+  RestStates word.Keep rest said = BareStates Keep rest said
+  RestStates word.Back rest said = BareStates Back rest said
+  RestStates word.Prune rest said = (limit : S) × WritesLimit notation rest limit × (said ≡ Prune limit)
+  RestStates word.Quote rest said = (limit : S) × WritesLimit notation rest limit × (said ≡ Quote limit)
 
   -- how what follows a word is read
   abbrev pub RestRead : Word → List ℕ → Option (EventLine S) → Type 0

@@ -7,7 +7,6 @@ use Rattle.events.specs.declared.Event.{Event}
 use Rattle.events.specs.declared.Event.TheVariants.{Strike, Mark, Keep, Back, Prune, Quote}
 use Rattle.events.specs.declared.Accepted.{Accepted}
 use Rattle.events.specs.declared.Accepted.TheVariants.{Done, Marked, Pruned, Quoted}
-use Rattle.answers.specs.Notations.{Notation}
 
 -- `struck place stroke`, `kept level` and `back level`; a mark, a prune and a quote answer more than that they are done
 abbrev pub done_text : {S : Type 0} → Event S → List ℕ
@@ -19,17 +18,18 @@ done_text (Prune limit) = []
 done_text (Quote limit) = []
 
 -- what a refused event answers: `refused`, the number, the layer, which is `sheet` for what an event is refused for, and 0
-abbrev pub refused_text : Refusal → List ℕ
-refused_text r = fault_line (on_sheet r) ++ codes "\n"
+abbrev pub refused_event_text : Refusal → List ℕ
+refused_event_text r = fault_line (on_sheet r) ++ codes "\n"
 
-module _ {S : Type 0} (notation : Notation S) where
+-- by price_text, which says how a price is printed
+module _ {S : Type 0} (price_text : S → List ℕ) where
   -- `cost` and what the cheapest run costs, and `struck` and how many strokes the prune closed
   abbrev pub pruned_text : Pruning S → List ℕ
-  pruned_text p = codes "cost " ++ (notation.text p.least ++ (codes "\nstruck " ++ (decimal p.closed ++ codes "\n")))
+  pruned_text p = codes "cost " ++ (price_text p.least ++ (codes "\nstruck " ++ (decimal p.closed ++ codes "\n")))
 
   -- `cost` and what the run costs, and `run` and its strokes
   abbrev pub quoted_text : S → List ℕ → List ℕ
-  quoted_text cost run = (codes "cost " ++ (notation.text cost ++ codes "\nrun ")) ++ (run ++ codes "\n")
+  quoted_text cost run = (codes "cost " ++ (price_text cost ++ codes "\nrun ")) ++ (run ++ codes "\n")
 
   -- what an accepted event answers, on a sheet of so many places
   abbrev pub accepted_text : ℕ → Event S → Accepted S → List ℕ
@@ -41,4 +41,4 @@ module _ {S : Type 0} (notation : Notation S) where
   -- what an event answers
   abbrev pub answer_text : ℕ → Event S → Result (Accepted S) Refusal → List ℕ
   answer_text places e (Ok accepted) = accepted_text places e accepted
-  answer_text places e (Err r) = refused_text r
+  answer_text places e (Err r) = refused_event_text r

@@ -1,4 +1,4 @@
--- The events of a day's lines, with the slips that they name. Assumes nothing.
+-- The events of a text's lines, with the slips that they name. Assumes nothing.
 use Rattle.std.specs.Prelude.{ℕ, ◌+◌, ◌-◌, min, List, [], ◌∷◌, Result, Ok, Err}
 use Rattle.refusal.specs.declared.Refusal.{Refusal}
 use Rattle.events.specs.declared.Event.{Event}
@@ -7,16 +7,16 @@ use Rattle.events.specs.States.{most_marks}
 use Rattle.answers.specs.declared.lines.EventLine.{EventLine}
 use Rattle.answers.specs.declared.lines.EventLine.TheVariants.{Strike, Mark, Keep, Back, Prune, Quote}
 
--- the number of the sheet of a day
-abbrev pub day_sheet : ℕ
-day_sheet = 1
+-- the number of the sheet that the office plays events on
+abbrev pub office_sheet_number : ℕ
+office_sheet_number = 1
 
 -- the event that a line states where so many marks stand: a keep and a back name the slip of the latest
 abbrev pub event_of : {S : Type 0} → ℕ → EventLine S → Event S
 event_of marks (Strike place stroke) = events.Strike place stroke
 event_of marks Mark = events.Mark
-event_of marks Keep = events.Keep day_sheet marks
-event_of marks Back = events.Back day_sheet marks
+event_of marks Keep = events.Keep office_sheet_number marks
+event_of marks Back = events.Back office_sheet_number marks
 event_of marks (Prune limit) = events.Prune limit
 event_of marks (Quote limit) = events.Quote limit
 

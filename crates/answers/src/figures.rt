@@ -1,22 +1,19 @@
 // How the limits of each scale are written in a text.
-ghost use Rattle.std.specs.Prelude.{◌≡◌, ℕ, List, MatchOption, Some, refl};
-ghost use Rattle.answers.specs.Notations.{Notation, Writes};
+ghost use Rattle.std.specs.Prelude.{MatchOption};
+ghost use Rattle.answers.specs.Notations.{Notation, WritesLimit};
 
-use scale::{Grade, Scale, Time, TimeGrade};
-use std::fmt::Display;
+use printing::Printed;
+use scale::{Grade, Time, TimeGrade};
 use text::numbers;
 
 // A scale whose limits are written as numbers, and whose prices are printed.
-pub trait Figures: Scale + Display {
-    // how a limit is written, and how a price is printed
+pub trait Figures: Printed {
+    // How a limit is written.
     ghost notation: { Notation Self };
 
     // The limit that `rest` writes, if it is just as many numbers as a limit has.
     fn limit(rest: &[u8]) -> Option<Self>
-        ensures { MatchOption result ((limit : Self) → Writes notation rest.now limit → ⊥) (λ limit. Writes notation rest.now limit) };
-
-    // A price is printed so.
-    ghost printed: { (p : Self) → Self.output p ≡ Some (notation.text p) };
+        ensures { MatchOption result ((limit : Self) → WritesLimit notation rest.now limit → ⊥) (λ limit. WritesLimit notation rest.now limit) };
 }
 
 // One number, the tenths of a second.
@@ -24,8 +21,6 @@ impl Figures for Time {
     ghost use Rattle.answers.specs.Notations.{time_notation};
 
     ghost notation = { time_notation };
-
-    ghost printed = { λ _. refl };
 
     fn limit(rest: &[u8]) -> Option<Time> {
         let [tenths] = numbers::<1>(rest)?;
@@ -39,8 +34,6 @@ impl Figures for Grade {
 
     ghost notation = { grade_notation };
 
-    ghost printed = { λ _. refl };
-
     fn limit(rest: &[u8]) -> Option<Grade> {
         let [level] = numbers::<1>(rest)?;
         Some(Grade::new(u8::try_from(level).unwrap_or(u8::MAX)))
@@ -52,8 +45,6 @@ impl Figures for TimeGrade {
     ghost use Rattle.answers.specs.Notations.{time_grade_notation};
 
     ghost notation = { time_grade_notation };
-
-    ghost printed = { λ _. refl };
 
     fn limit(rest: &[u8]) -> Option<TimeGrade> {
         let [tenths, level] = numbers::<2>(rest)?;

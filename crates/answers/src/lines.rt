@@ -1,6 +1,6 @@
 // What a line of an event states.
 ghost use Rattle.std.specs.Prelude.{ℕ, List};
-ghost use Rattle.answers.specs.Lines.{RestRead, LineRead, OneReading};
+ghost use Rattle.answers.specs.Lines.{BareRead, RestRead, LineRead, OneReading};
 ghost use Rattle.answers.specs.declared.words.Word.TheVariants as word;
 
 use crate::figures::Figures;
@@ -37,37 +37,11 @@ fn strike_line<S: Figures>(rest: &[u8]) -> Option<EventLine<S>>
     })
 }
 
-// What a line states whose word is `mark`: no field follows.
-fn mark_line<S: Figures>(rest: &[u8]) -> Option<EventLine<S>>
-    ensures { RestRead S.notation word.Mark rest.now result }
+// What a line states whose word is that of this event, which has no field: that event, where none follows.
+fn bare_line<S: Figures>(rest: &[u8], said: EventLine<S>) -> Option<EventLine<S>>
+    ensures { BareRead said rest.now result }
 {
-    if rest.is_empty() {
-        Some(EventLine::Mark)
-    } else {
-        None
-    }
-}
-
-// What a line states whose word is `keep`: no field follows.
-fn keep_line<S: Figures>(rest: &[u8]) -> Option<EventLine<S>>
-    ensures { RestRead S.notation word.Keep rest.now result }
-{
-    if rest.is_empty() {
-        Some(EventLine::Keep)
-    } else {
-        None
-    }
-}
-
-// What a line states whose word is `back`: no field follows.
-fn back_line<S: Figures>(rest: &[u8]) -> Option<EventLine<S>>
-    ensures { RestRead S.notation word.Back rest.now result }
-{
-    if rest.is_empty() {
-        Some(EventLine::Back)
-    } else {
-        None
-    }
+    if rest.is_empty() { Some(said) } else { None }
 }
 
 // What a line states whose word is `prune`: its fields are the limit.
@@ -93,9 +67,9 @@ pub fn event_line<S: Figures>(line: &[u8]) -> Reading<S>
     let (word, rest) = line_word(line).ok_or(Refusal::UnknownLine)?;
     let stated = match word {
         Word::Strike => strike_line(rest),
-        Word::Mark => mark_line(rest),
-        Word::Keep => keep_line(rest),
-        Word::Back => back_line(rest),
+        Word::Mark => bare_line(rest, EventLine::Mark),
+        Word::Keep => bare_line(rest, EventLine::Keep),
+        Word::Back => bare_line(rest, EventLine::Back),
         Word::Prune => prune_line(rest),
         Word::Quote => quote_line(rest),
     };

@@ -1,6 +1,6 @@
 // The answer of an event, as it is printed.
 ghost use Rattle.std.specs.Prelude.{◌≡◌, IfOk, take};
-ghost use Rattle.answers.specs.Paragraphs.{done_text, pruned_text, quoted_text, accepted_text, refused_text, answer_text};
+ghost use Rattle.answers.specs.Paragraphs.{done_text, pruned_text, quoted_text, accepted_text, refused_event_text, answer_text};
 
 use crate::figures::Figures;
 use events::{Accepted, Answer, Event};
@@ -29,7 +29,7 @@ fn done_text<S: Scale>(heap: Global, event: &Event<S>) -> Result<Vec<u8>, AllocE
 
 // What the cheapest run costs, and how many strokes were closed.
 fn pruned_text<S: Figures>(heap: Global, pruned: &Pruned<S>) -> Result<Vec<u8>, AllocError>
-    ensures { IfOk result (λ v. v.items ≡ pruned_text S.notation pruned.now) }
+    ensures { IfOk result (λ v. v.items ≡ pruned_text S.price_text pruned.now) }
 {
     let least = pruned.least;
     let closed = pruned.closed;
@@ -38,7 +38,7 @@ fn pruned_text<S: Figures>(heap: Global, pruned: &Pruned<S>) -> Result<Vec<u8>, 
 
 // What the run costs, and the run.
 fn quoted_text<S: Figures>(heap: Global, cost: S, run: &[u8]) -> Result<Vec<u8>, AllocError>
-    ensures { IfOk result (λ v. v.items ≡ quoted_text S.notation cost run.now) }
+    ensures { IfOk result (λ v. v.items ≡ quoted_text S.price_text cost run.now) }
 {
     let mut out = format!(in heap; "cost {cost}\nrun ")?.into_bytes();
     out.extend_from_slice(run)?;
@@ -64,7 +64,7 @@ fn accepted_text<S: Figures>(
     event: &Event<S>,
     accepted: &Accepted<S>,
 ) -> Result<Vec<u8>, AllocError>
-    ensures { IfOk result (λ v. v.items ≡ accepted_text S.notation places event.now accepted.now) }
+    ensures { IfOk result (λ v. v.items ≡ accepted_text S.price_text places event.now accepted.now) }
 {
     match accepted {
         Accepted::Done => done_text(heap, event),
@@ -75,8 +75,8 @@ fn accepted_text<S: Figures>(
 }
 
 // What is printed of a refused event.
-fn refused_text(heap: Global, refusal: Refusal) -> Result<Vec<u8>, AllocError>
-    ensures { IfOk result (λ v. v.items ≡ refused_text refusal) }
+fn refused_event_text(heap: Global, refusal: Refusal) -> Result<Vec<u8>, AllocError>
+    ensures { IfOk result (λ v. v.items ≡ refused_event_text refusal) }
 {
     let fault = Fault::of_sheet(refusal);
     Ok(format!(in heap; "{fault}\n")?.into_bytes())
@@ -89,10 +89,10 @@ pub fn answer_text<S: Figures>(
     event: &Event<S>,
     answer: &Answer<S>,
 ) -> Result<Vec<u8>, AllocError>
-    ensures { IfOk result (λ v. v.items ≡ answer_text S.notation places event.now answer.now) }
+    ensures { IfOk result (λ v. v.items ≡ answer_text S.price_text places event.now answer.now) }
 {
     match answer {
         Ok(accepted) => accepted_text(heap, places, event, accepted),
-        Err(refusal) => refused_text(heap, *refusal),
+        Err(refusal) => refused_event_text(heap, *refusal),
     }
 }

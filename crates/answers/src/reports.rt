@@ -1,13 +1,13 @@
-// A day as it is printed.
+// The answers of events as they are printed, with the lines of their text that are refused.
 ghost use Rattle.std.specs.Prelude.{◌≡◌, ◌≤◌, List, length, map, IfOk};
-ghost use Rattle.answers.specs.Days.{DayLine, reading_of, Lined};
+ghost use Rattle.answers.specs.Texts.{EventTextLine, reading_of, Lined};
 ghost use Rattle.answers.specs.Slips.{events_of};
-ghost use Rattle.answers.specs.DayTexts.{line_text, paragraphs, day_text};
+ghost use Rattle.answers.specs.Reports.{refused_line_text, paragraphs, printed_text};
 
-use crate::days::cut_line;
 use crate::figures::Figures;
 use crate::lines::Reading;
 use crate::paragraphs::answer_text;
+use crate::texts::line_and_rest;
 use events::{Answer, Event};
 use refusal::{Fault, Refusal, Source};
 use std::alloc::{AllocError, Global};
@@ -19,7 +19,7 @@ fn refused_line(
     refusal: Refusal,
     number: usize,
 ) -> Result<Vec<u8>, AllocError>
-    ensures { IfOk result (λ v. v.items ≡ line_text refusal number line.now) }
+    ensures { IfOk result (λ v. v.items ≡ refused_line_text refusal number line.now) }
 {
     // A refused line is of the layer `reader`, whatever its source.
     let fault = Fault {
@@ -33,9 +33,9 @@ fn refused_line(
     Ok(out)
 }
 
-// What is printed of a day's lines, on a sheet of so many places: of each event its answer, and of each line that is refused the
-// refusal with the line's number, and the line.
-pub(crate) fn day_text<S: Figures>(
+// What is printed of the lines of a text of events, on a sheet of so many places: of each event its answer, and of each line that is
+// refused the refusal with the line's number, and the line.
+pub(crate) fn printed_text<S: Figures>(
     heap: Global,
     places: usize,
     text: &[u8],
@@ -46,13 +46,13 @@ pub(crate) fn day_text<S: Figures>(
     requires places { places ≤ 24 }
     requires events { events.now ≡ events_of 0 readings.now }
     requires answers { length answers.now ≡ length events.now }
-    ensures { (lines : List (DayLine S)) → Lined S.notation text.now lines → readings.now ≡ map reading_of lines → IfOk result (λ v. v.items ≡ day_text 1 lines (paragraphs S.notation places events.now answers.now)) }
+    ensures { (lines : List (EventTextLine S)) → Lined S.notation text.now lines → readings.now ≡ map reading_of lines → IfOk result (λ v. v.items ≡ printed_text 1 lines (paragraphs S.price_text places events.now answers.now)) }
 {
     let mut out = Vec::new(heap);
     let mut rest = text;
     let mut told = 0;
     for (i, reading) in readings.iter().enumerate() {
-        let (line, after) = cut_line(rest);
+        let (line, after) = line_and_rest(rest);
         rest = after;
         match reading {
             Ok(_) => {

@@ -1,4 +1,4 @@
-// The events of a day's lines, with the slips that they name.
+// The events of a text's lines, with the slips that they name.
 ghost use Rattle.std.specs.Prelude.{◌≡◌, ◌≤◌, IfOk};
 ghost use Rattle.answers.specs.Counts.{MarksCounted};
 ghost use Rattle.answers.specs.Slips.{event_of, marks_after, events_of};
@@ -8,8 +8,8 @@ use events::Event;
 use scale::Scale;
 use std::alloc::{AllocError, Global};
 
-// The number of the sheet of a day: there is one.
-pub const SHEET_NUMBER: u16 = 1;
+// The number of the sheet that events are played on: there is one.
+pub(crate) const SHEET_NUMBER: u16 = 1;
 
 // The event that a line states where so many marks stand: a keep and a back name the slip of the latest.
 fn event_of<S: Scale>(said: EventLine<S>, marks: usize) -> Event<S>

@@ -9,7 +9,7 @@ use Rattle.book.specs.declared.books.Book.{Book}
 use Rattle.planner.specs.Boards.{board_entries, spans_before}
 use Rattle.planner.specs.Outcomes.{priced}
 use Rattle.planner.proofs.Indexing.{entries_are, spans_mono}
-use Rattle.controller.specs.Packed.{packed, answered, entered, entry_refused, run_refused}
+use Rattle.controller.specs.Packed.{packed, answered, entry_answer, entry_refused, run_refused}
 
 room : (n k : ℕ) → n ≤ 16 → k ≤ 32 → board_entries n k ≤ 4352
 room n k few parts = subst (λ e. e ≤ 4352) (sym (entries_are n k)) (mul-le (spans_before n) k 136 32 (spans_mono n 16 few) parts)
@@ -19,6 +19,6 @@ same_refusal k run parts (inl more) = grind (arith, nat_tests)
 same_refusal k run parts (inr few) = let e = room (length run) k few parts in grind (arith, nat_tests)
 
 -- so it is never refused for want of room
-pub roomy : (read : Result Book Fault) (run : List ℕ) → answered read run 4352 ≡ entered read run
+pub roomy : (read : Result Book Fault) (run : List ℕ) → answered read run 4352 ≡ entry_answer read run
 roomy (Ok b) run = ap (λ r. packed (priced time_ops b.rules.items r run)) (same_refusal b.parts run b.few_parts (cases_lt 16 (length run)))
 roomy (Err f) run = refl

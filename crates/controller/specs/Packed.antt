@@ -31,10 +31,11 @@ abbrev pub run_refused : List ℕ → Option Refusal
 run_refused run =
     if nat_lt 16 (length run) then Some TooManyPlaces else (if length run == 0 then Some BadLength else (if not (list_all is_stroke run) then Some NotAStroke else None))
 
-abbrev pub entered : Result Book Fault → List ℕ → ℕ
-entered (Err f) run = packed (Err f.refusal)
-entered (Ok b) run = packed (priced time_ops (vec_items b.rules) (run_refused run) run)
+-- what is answered then
+abbrev pub entry_answer : Result Book Fault → List ℕ → ℕ
+entry_answer (Err f) run = packed (Err f.refusal)
+entry_answer (Ok b) run = packed (priced time_ops (vec_items b.rules) (run_refused run) run)
 
 -- the answer is of the book that the text tells, or of the refusal of the text, as the reader finds it
-abbrev pub Entered : List ℕ → List ℕ → ℕ → Type 0
-Entered text run answer = (read : Result Book Fault) × Outcome text read × Told text read × (answer ≡ entered read run)
+abbrev pub EntryAnswers : List ℕ → List ℕ → ℕ → Type 0
+EntryAnswers text run answer = (read : Result Book Fault) × Outcome text read × Told text read × (answer ≡ entry_answer read run)

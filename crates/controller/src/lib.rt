@@ -1,8 +1,8 @@
 // The entry of the saw's controller, which is a C program: what a run costs by a book's text, in one number.
 #![tactic(auto)]
 
-ghost use Rattle.std.specs.Prelude.{◌≡◌, length};
-ghost use Rattle.controller.specs.Packed.{Entered, answered, packed};
+ghost use Rattle.std.specs.Prelude.{◌≡◌, IsSome, MatchResult, length};
+ghost use Rattle.controller.specs.Packed.{EntryAnswers, answered, entry_refused, packed};
 
 use book::Book;
 use planner::price;
@@ -18,15 +18,17 @@ mod tests;
 // board has entries for 16 places and 32 parts.
 #[unsafe(no_mangle)]
 pub extern "C" fn waichuro_price(heap: Global, book: &[u8], run: &[u8]) -> u64
-    ensures { Entered book.now run.now result }
+    ensures { EntryAnswers book.now run.now result }
 {
     let mut inside = [Time::new(0); 4352];
     answer(book::read(heap, book), run, &mut inside)
 }
 
-// The same of a book as it was read, on a board that is lent.
+// The same of a book as it was read, on a board that is lent. What the board holds after a time or refusal 10 is free; any other
+// refusal leaves it as it was.
 pub fn answer(read: Result<Book, Fault>, run: &[u8], inside: &mut [Time]) -> u64
-    ensures { result ≡ answered read run.now (length inside.old) }
+    ensures answer { result ≡ answered read run.now (length inside.old) }
+    ensures board { MatchResult read (λ b. IsSome (entry_refused b.parts run.now (length inside.old)) → inside.new ≡ inside.old) (λ _. inside.new ≡ inside.old) }
 {
     match read {
         Ok(_) if 16 < run.len() => pack(Err(Refusal::TooManyPlaces)),

@@ -48,14 +48,29 @@ QuotesAsAtBirth o w birth g (e ∷ es) [] = ⊥
 -- after any life a quote ends just as on the birth sheet less the strikes that stand
 abbrev pub LifeTheorem : {S : Type 0} → Ops S → Type 0
 LifeTheorem {S} o =
-    (w : Setting S) (birth : Pairs) (events : List (Event S × Lent)) (answers : List (Result (Accepted S) Refusal)) (s : State) (g : Ledger S) → HasLived o w birth events answers s g → (limit : S) → NotAbove o limit g.standing.limits → (lent : Lent) (answer : Result (Accepted S) Refusal) → QuoteEnds o w s.shown limit lent answer ↔ QuoteEnds o w (less birth g.standing.strikes) limit lent answer
+    (w : Setting S) (birth : Pairs) (events : List (Event S × Lent)) (answers : List (Result (Accepted S) Refusal)) (s : State) (g : Ledger S)
+    → HasLived o w birth events answers s g
+    → (limit : S)
+    → NotAbove o limit g.standing.limits
+    → (lent : Lent) (answer : Result (Accepted S) Refusal)
+    → QuoteEnds o w s.shown limit lent answer ↔ QuoteEnds o w (less birth g.standing.strikes) limit lent answer
 
 -- two such quotes, one after the life and one on the birth sheet less the strikes that stand, end alike
 abbrev pub SameEndTheorem : {S : Type 0} → Ops S → Type 0
 SameEndTheorem {S} o =
-    (w : Setting S) (birth : Pairs) (events : List (Event S × Lent)) (answers : List (Result (Accepted S) Refusal)) (s : State) (g : Ledger S) → HasLived o w birth events answers s g → (limit : S) → NotAbove o limit g.standing.limits → (lent : Lent) (a b : Result (Accepted S) Refusal) → QuoteEnds o w s.shown limit lent a → QuoteEnds o w (less birth g.standing.strikes) limit lent b → a ≡ b
+    (w : Setting S) (birth : Pairs) (events : List (Event S × Lent)) (answers : List (Result (Accepted S) Refusal)) (s : State) (g : Ledger S)
+    → HasLived o w birth events answers s g
+    → (limit : S)
+    → NotAbove o limit g.standing.limits
+    → (lent : Lent) (a b : Result (Accepted S) Refusal)
+    → QuoteEnds o w s.shown limit lent a
+    → QuoteEnds o w (less birth g.standing.strikes) limit lent b
+    → a ≡ b
 
 -- a life is lived in one way: the events and what is lent settle the answers, the state and the ledger
 abbrev pub OneLife : {S : Type 0} → Ops S → Type 0
 OneLife {S} o =
-    (w : Setting S) (birth : Pairs) (events : List (Event S × Lent)) (answers answers' : List (Result (Accepted S) Refusal)) (s s' : State) (g g' : Ledger S) → HasLived o w birth events answers s g → HasLived o w birth events answers' s' g' → (answers ≡ answers') × (s ≡ s') × (g ≡ g')
+    (w : Setting S) (birth : Pairs) (events : List (Event S × Lent)) (answers answers' : List (Result (Accepted S) Refusal)) (s s' : State) (g g' : Ledger S)
+    → HasLived o w birth events answers s g
+    → HasLived o w birth events answers' s' g'
+    → (answers ≡ answers') × (s ≡ s') × (g ≡ g')

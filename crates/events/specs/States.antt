@@ -1,5 +1,5 @@
 -- What a marked sheet means: its open pairs, and those that it goes back to. Assumes nothing.
-use Rattle.std.specs.Prelude.{ℕ, Bool, ◌&&◌, ◌==◌, if◌then◌else◌, List, [], ◌∷◌, length, nat_lt, Result, Ok, Err}
+use Rattle.std.specs.Prelude.{◌≡◌, ℕ, Bool, ◌&&◌, ◌==◌, if◌then◌else◌, List, [], ◌∷◌, length, nat_lt, Result, Ok, Err, MatchResult}
 use Rattle.refusal.specs.declared.Refusal.{Refusal}
 use Rattle.refusal.specs.declared.Refusal.TheVariants.{MarksFull, WrongSlip}
 use Rattle.sheet.specs.Pairs.{Pairs, closed_at}
@@ -22,6 +22,10 @@ most_marks = 8
 abbrev pub left_by : Result (Unit {0}) Refusal → State → Result State Refusal
 left_by (Ok _) after = Ok after
 left_by (Err e) after = Err e
+
+-- a call that answers `result` leaves the state `next`, where `after` says which state it leads to, or why it is refused
+abbrev pub LeadsTo : {A E : Type 0} → (E → Refusal) → Result State Refusal → Result A E → State → Type 0
+LeadsTo why after result next = MatchResult result (λ _. after ≡ Ok next) (λ e. after ≡ Err (why e))
 
 -- the state after a strike of the stroke c at the place p, on a sheet of n places, or why it is refused
 abbrev pub after_strike : ℕ → State → ℕ → ℕ → Result State Refusal

@@ -9,7 +9,7 @@ use Rattle.sheet.specs.Pairs.{Pairs, closed_at}
 use Rattle.sheet.specs.Strikes.{struck}
 use Rattle.sheet.proofs.Sets.{closed_less}
 use Rattle.events.specs.declared.Accepted.{Accepted}
-use Rattle.events.specs.States.{State, earlier, fits, left_by, after_strike, after_mark, after_keep, after_back, latest}
+use Rattle.events.specs.States.{State, LeadsTo, earlier, fits, left_by, after_strike, after_mark, after_keep, after_back, latest}
 use Rattle.events.specs.Steps.{Setting, Lent, QuoteEnds}
 use Rattle.marks.specs.declared.marked.Marked.{Marked}
 use Rattle.marks.specs.Marks.{state}
@@ -24,21 +24,25 @@ marked_as s t h = grind (arith, nat_tests)
 pub back_as : (number level sheet : ℕ) (s t : State) → after_back sheet s number level ≡ Ok t → t ≡ record { shown = latest s.shown s.saved; saved = earlier s.saved }
 back_as number level sheet s t h = grind (arith, nat_tests)
 
+-- a strike touches no mark
+pub struck_saved : (n : ℕ) (s : State) (p c : ℕ) → (state_struck n s p c).saved ≡ s.saved
+struck_saved n s p c = saved (struck n s.shown p c)
+  where
+    saved : (r : Result (Unit {0}) Refusal) → (if is_ok r then (record { shown = closed_at s.shown p c; saved = s.saved }) else s).saved ≡ s.saved
+    saved (Ok _) = refl
+    saved (Err e) = refl
+
 -- whatever is struck under a mark, a back to it leaves the state before it
 pub back_again : (n p c number level sheet : ℕ) (s t u v : State) → after_mark s ≡ Ok t → u ≡ state_struck n t p c → after_back sheet u number level ≡ Ok v → v ≡ s
 back_again n p c number level sheet s t u v m k b =
     back_as number level sheet u v b
-    ∙ ap (λ (fs : List Pairs). record { shown = latest u.shown fs; saved = earlier fs }) (ap (λ (x : State). x.saved) k ∙ struck_saved (struck n t.shown p c) t p c ∙ ap (λ (x : State). x.saved) (marked_as s t m))
-  where
-    struck_saved : (r : Result (Unit {0}) Refusal) (t : State) (p c : ℕ) → (if is_ok r then record { shown = closed_at t.shown p c; saved = t.saved } else t).saved ≡ t.saved
-    struck_saved (Ok _) t p c = refl
-    struck_saved (Err e) t p c = refl
+    ∙ ap (λ (fs : List Pairs). record { shown = latest u.shown fs; saved = earlier fs }) (ap (λ (x : State). x.saved) k ∙ struck_saved n t p c ∙ ap (λ (x : State). x.saved) (marked_as s t m))
 
 left_ok : (x : Result (Unit {0}) Refusal) (t u : State) → left_by x u ≡ Ok t → (x ≡ Ok tt) × (t ≡ u)
 left_ok (Ok _) t u h = (refl, grind arith)
 left_ok (Err e) t u h = grind arith
 
-left_as : (x r : Result (Unit {0}) Refusal) (s t u : State) (Y : Type 0) → MatchResult r (λ _. left_by x u ≡ Ok t) (λ e. left_by x u ≡ Err e) → OnErr r Y → (Y → t ≡ s) → (t ≡ (if is_ok x then u else s)) × (r ≡ x)
+left_as : (x r : Result (Unit {0}) Refusal) (s t u : State) (Y : Type 0) → LeadsTo (λ e. e) (left_by x u) r t → OnErr r Y → (Y → t ≡ s) → (t ≡ (if is_ok x then u else s)) × (r ≡ x)
 left_as (Ok _) (Ok _) s t u Y h e same = (grind arith, refl)
 left_as (Ok _) (Err f) s t u Y h e same = grind arith
 left_as (Err f) (Ok _) s t u Y h e same = grind arith
@@ -51,7 +55,7 @@ module _ {H : Type 0} (places : H → ℕ) (shown : H → Pairs) (m m' : Marked 
       (state places shown m' ≡ state_struck (places m.below.now) (state places shown m) p c)
       × (r ≡ struck (places m.below.now) (shown m.below.now) p c)
 
-  pub struck_as : MatchResult r (λ _. after_strike (places m.below.now) (state places shown m) p c ≡ Ok (state places shown m')) (λ e. after_strike (places m.below.now) (state places shown m) p c ≡ Err e) → OnErr r (m' ≡ m) → Struck
+  pub struck_as : LeadsTo (λ e. e) (after_strike (places m.below.now) (state places shown m) p c) r (state places shown m') → OnErr r (m' ≡ m) → Struck
   struck_as h e =
       left_as (struck (places m.below.now) (shown m.below.now) p c) r (state places shown m) (state places shown m') _ (m' ≡ m) h e (λ e. ap (λ m. state places shown m) e)
 
@@ -62,14 +66,6 @@ struck_fewer n s t p c e q d h = fewer (struck n s.shown p c) (ap (λ s. s.shown
     fewer : (r : Result (Unit {0}) Refusal) → (if is_ok r then (record { shown = closed_at s.shown p c; saved = s.saved }) else s).shown q d ≡ true → s.shown q d ≡ true
     fewer (Ok _) h = closed_less s.shown p c q d h
     fewer (Err e) h = h
-
--- and touches no mark
-pub struck_saved : (n : ℕ) (s : State) (p c : ℕ) → (state_struck n s p c).saved ≡ s.saved
-struck_saved n s p c = saved (struck n s.shown p c)
-  where
-    saved : (r : Result (Unit {0}) Refusal) → (if is_ok r then (record { shown = closed_at s.shown p c; saved = s.saved }) else s).saved ≡ s.saved
-    saved (Ok _) = refl
-    saved (Err e) = refl
 
 -- a strike and then another
 pub struck_twice : (n : ℕ) (s : State) (p c q d : ℕ) → result_and (struck n s.shown p c) (struck n (state_struck n s p c).shown q d) ≡ struck_both n s.shown p c q d

@@ -8,10 +8,10 @@ use Rattle.sheet.specs.Strikes.{struck}
 use Rattle.derivations.specs.Runs.{NoneWithin}
 use Rattle.planner.specs.declared.pruning.Pruned.{Pruned}
 use Rattle.planner.specs.Outcomes.{Answered, PrunedTo, QuotedAs}
-use Rattle.events.specs.States.{State, left_by, after_strike}
+use Rattle.events.specs.States.{State, LeadsTo, left_by, after_strike}
 use Rattle.events.specs.Steps.{Setting, Lent, Prunes, Quotes, prune_answer, quote_answer}
 
-pub strike_left : (n : ℕ) (f f' : Pairs) (saved saved' : List Pairs) (p c : ℕ) (Y : Type 0) (r : Result (Unit {0}) Refusal) → r ≡ struck n f p c → MatchResult r (λ _. f' ≡ closed_at f p c) (λ _. Y) → saved' ≡ saved → MatchResult r (λ _. after_strike n (record { shown = f; saved = saved }) p c ≡ Ok (record { shown = f'; saved = saved' })) (λ e. after_strike n (record { shown = f; saved = saved }) p c ≡ Err e)
+pub strike_left : (n : ℕ) (f f' : Pairs) (saved saved' : List Pairs) (p c : ℕ) (Y : Type 0) (r : Result (Unit {0}) Refusal) → r ≡ struck n f p c → MatchResult r (λ _. f' ≡ closed_at f p c) (λ _. Y) → saved' ≡ saved → LeadsTo (λ e. e) (after_strike n (record { shown = f; saved = saved }) p c) r (record { shown = f'; saved = saved' })
 strike_left n f f' saved saved' p c Y (Ok x) e h keep =
     ap (λ r. left_by r (record { shown = closed_at f p c; saved = saved })) (sym e) ∙ ap₂ (λ g s. Ok (record { shown = g; saved = s })) (sym h) (sym keep)
 strike_left n f f' saved saved' p c Y (Err x) e h keep = ap (λ r. left_by r (record { shown = closed_at f p c; saved = saved })) (sym e)

@@ -33,12 +33,6 @@ module _ (n : ℕ) (f g : Pairs) where
         let was = ap (λ s. s q c) (sym et) ∙ h in
         rw eu (between (eqb q p) (leb 65 c) (ltb c k) (ltb c (k + 1)) (copied n f q c) (g q c) (λ less. grind (arith, nat_tests)) was)
 
-  pub below_first : (p : ℕ) → g ≡ copied_below p 65
-  below_first p = fun_ext (λ q. fun_ext (λ c. grind (arith, nat_tests)))
-
-  pub below_all : (p k : ℕ) → 90 < k → ((q c : ℕ) → g q c ≡ true → in_range n q c ≡ true) → copied_below p k ≡ copied_at n f g p
-  below_all p k past within = fun_ext (λ q. fun_ext (λ c. let h = within q c in grind (arith, nat_tests)))
-
   module _ (p : ℕ) {t u : Pairs} (et : t ≡ copied_before p) where
     pub before_copied : {m : ℕ} → 1 ≤ p → m ≡ n → u ≡ copied_at m f t p → u ≡ copied_before (p + 1)
     before_copied some em eu = eu ∙ ap₂ (λ m s. copied_at m f s p) em et ∙ fun_ext (λ q. fun_ext (λ c. grind (arith, nat_tests)))
@@ -47,9 +41,6 @@ module _ (n : ℕ) (f g : Pairs) where
     before_between eu q c h =
         let was = ap (λ s. s q c) (sym et) ∙ h in
         rw eu (between true (leb 1 q) (ltb q p) (ltb q (p + 1)) (copied n f q c) (g q c) (λ less. grind (arith, nat_tests)) was)
-
-  pub before_first : g ≡ copied_before 1
-  before_first = fun_ext (λ q. fun_ext (λ c. grind (arith, nat_tests)))
 
   pub before_all : (p : ℕ) → n < p → ((q c : ℕ) → g q c ≡ true → in_range n q c ≡ true) → copied_before p ≡ copied n f
   before_all p past within = fun_ext (λ q. fun_ext (λ c. let h = within q c in grind (arith, nat_tests)))

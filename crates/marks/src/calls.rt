@@ -1,5 +1,5 @@
 // The calls that a marked sheet hands to the sheet below: they touch no mark.
-ghost use Rattle.std.specs.Prelude.{◌≡◌, ℕ, List, [], Ok, Err, MatchResult, OnErr, IsSome, Result, length};
+ghost use Rattle.std.specs.Prelude.{◌≡◌, ℕ, List, OnErr, IsSome, Result, length};
 ghost use Rattle.refusal.specs.declared.Refusal.{Refusal};
 ghost use Rattle.planner.specs.Outcomes.{prune_refused, quote_refused};
 ghost use Rattle.sheet.specs.Pairs.{Pairs};
@@ -9,7 +9,7 @@ ghost use Rattle.events.specs.declared.Event.TheVariants.{Prune, Quote};
 ghost use Rattle.events.specs.declared.Accepted.{Accepted};
 ghost use Rattle.events.specs.Ledgers.{Ledger};
 ghost use Rattle.events.specs.Lives.{AsAtBirth, HasLived};
-ghost use Rattle.events.specs.States.{after_strike};
+ghost use Rattle.events.specs.States.{LeadsTo, after_strike};
 ghost use Rattle.events.specs.Steps.{Lent, Step, lent_prune, lent_quote, prune_answer, quote_answer};
 ghost use Rattle.marks.specs.Marks.{SameSheet, state, setting};
 
@@ -24,7 +24,7 @@ impl<'a, H: Sheet> Marked<'a, H> {
     // Closes the stroke at the place, or is refused as the strike of any sheet.
     pub fn strike(&mut self, place: usize, stroke: u8) -> Result<(), Refusal>
         ensures answer { result ≡ struck (H.places self.old.below.now) (H.shown self.old.below.now) place stroke }
-        ensures state { MatchResult result (λ _. after_strike (H.places self.old.below.now) (state H.places H.shown self.old) place stroke ≡ Ok (state H.places H.shown self.new)) (λ e. after_strike (H.places self.old.below.now) (state H.places H.shown self.old) place stroke ≡ Err e) }
+        ensures state { LeadsTo (λ e. e) (after_strike (H.places self.old.below.now) (state H.places H.shown self.old) place stroke) result (state H.places H.shown self.new) }
         ensures refused { OnErr result (self.new ≡ self.old) }
         ensures marks { self.new.marks ≡ self.old.marks }
         ensures sheet { SameSheet H.kept self.old self.new }

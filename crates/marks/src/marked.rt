@@ -1,7 +1,7 @@
 // A marked sheet: marks are set on a sheet, and each is kept or gone back to.
-ghost use Rattle.std.specs.Prelude.{◌≡◌, Ok, Err, MatchResult, OnErr, IfOk, IfErr, length};
+ghost use Rattle.std.specs.Prelude.{◌≡◌, OnErr, IfOk, IfErr, length};
 ghost use Rattle.sheet.specs.LentLaws.{lent_laws};
-ghost use Rattle.events.specs.States.{born, after_mark, after_keep, after_back};
+ghost use Rattle.events.specs.States.{LeadsTo, born, after_mark, after_keep, after_back};
 ghost use Rattle.marks.specs.Copies.{copied};
 ghost use Rattle.marks.specs.Marks.{SameSheet, sheet_number, state};
 ghost use Rattle.sheet.specs.Masks.{mask_places, mask_shown};
@@ -36,7 +36,7 @@ impl<'a, H: Sheet> Marked<'a, H> {
 
     // Sets a mark, and hands out its slip. Refused where eight stand, and in no other case.
     pub fn mark(&mut self) -> Result<Slip, Refusal>
-        ensures state { MatchResult result (λ _. after_mark (state H.places H.shown self.old) ≡ Ok (state H.places H.shown self.new)) (λ e. after_mark (state H.places H.shown self.old) ≡ Err e) }
+        ensures state { LeadsTo (λ e. e) (after_mark (state H.places H.shown self.old)) result (state H.places H.shown self.new) }
         ensures refused { OnErr result (self.new ≡ self.old) }
         ensures below { self.new.below ≡ self.old.below }
         ensures slip { IfOk result (λ s. (s.number ≡ sheet_number self.old) × (s.level ≡ length (state H.places H.shown self.new).saved)) }
@@ -51,7 +51,7 @@ impl<'a, H: Sheet> Marked<'a, H> {
 
     // Sets a mark, and answers its level.
     pub(crate) fn set_mark(&mut self) -> Result<usize, Refusal>
-        ensures state { MatchResult result (λ _. after_mark (state H.places H.shown self.old) ≡ Ok (state H.places H.shown self.new)) (λ e. after_mark (state H.places H.shown self.old) ≡ Err e) }
+        ensures state { LeadsTo (λ e. e) (after_mark (state H.places H.shown self.old)) result (state H.places H.shown self.new) }
         ensures refused { OnErr result (self.new ≡ self.old) }
         ensures below { self.new.below ≡ self.old.below }
         ensures level { IfOk result (λ l. l ≡ length (state H.places H.shown self.new).saved) }
@@ -68,7 +68,7 @@ impl<'a, H: Sheet> Marked<'a, H> {
     // Ends the latest mark and leaves the open pairs alone. Refused, with the slip, where that is of another sheet or not of the
     // latest mark.
     pub fn keep(&mut self, slip: Slip) -> Result<(), Returned>
-        ensures state { MatchResult result (λ _. after_keep (sheet_number self.old) (state H.places H.shown self.old) slip.number slip.level ≡ Ok (state H.places H.shown self.new)) (λ r. after_keep (sheet_number self.old) (state H.places H.shown self.old) slip.number slip.level ≡ Err r.refusal) }
+        ensures state { LeadsTo (λ r. r.refusal) (after_keep (sheet_number self.old) (state H.places H.shown self.old) slip.number slip.level) result (state H.places H.shown self.new) }
         ensures slip { IfErr result (λ r. r.slip ≡ slip) }
         ensures refused { OnErr result (self.new ≡ self.old) }
         ensures below { self.new.below ≡ self.old.below }
@@ -85,7 +85,7 @@ impl<'a, H: Sheet> Marked<'a, H> {
 
     // The keep, by the two numbers of the slip.
     pub(crate) fn keep_numbered(&mut self, number: u16, level: usize) -> Result<(), Refusal>
-        ensures state { MatchResult result (λ _. after_keep (sheet_number self.old) (state H.places H.shown self.old) number level ≡ Ok (state H.places H.shown self.new)) (λ e. after_keep (sheet_number self.old) (state H.places H.shown self.old) number level ≡ Err e) }
+        ensures state { LeadsTo (λ e. e) (after_keep (sheet_number self.old) (state H.places H.shown self.old) number level) result (state H.places H.shown self.new) }
         ensures refused { OnErr result (self.new ≡ self.old) }
         ensures below { self.new.below ≡ self.old.below }
         ensures sheet { SameSheet H.kept self.old self.new }
@@ -97,7 +97,7 @@ impl<'a, H: Sheet> Marked<'a, H> {
     // Ends the latest mark and restores its open pairs. Refused, with the slip, where that is of another sheet or not of the latest
     // mark.
     pub fn back(&mut self, slip: Slip) -> Result<(), Returned>
-        ensures state { MatchResult result (λ _. after_back (sheet_number self.old) (state H.places H.shown self.old) slip.number slip.level ≡ Ok (state H.places H.shown self.new)) (λ r. after_back (sheet_number self.old) (state H.places H.shown self.old) slip.number slip.level ≡ Err r.refusal) }
+        ensures state { LeadsTo (λ r. r.refusal) (after_back (sheet_number self.old) (state H.places H.shown self.old) slip.number slip.level) result (state H.places H.shown self.new) }
         ensures slip { IfErr result (λ r. r.slip ≡ slip) }
         ensures refused { OnErr result (self.new ≡ self.old) }
         ensures sheet { SameSheet H.kept self.old self.new }
@@ -113,7 +113,7 @@ impl<'a, H: Sheet> Marked<'a, H> {
 
     // The back, by the two numbers of the slip.
     pub(crate) fn back_numbered(&mut self, number: u16, level: usize) -> Result<(), Refusal>
-        ensures state { MatchResult result (λ _. after_back (sheet_number self.old) (state H.places H.shown self.old) number level ≡ Ok (state H.places H.shown self.new)) (λ e. after_back (sheet_number self.old) (state H.places H.shown self.old) number level ≡ Err e) }
+        ensures state { LeadsTo (λ e. e) (after_back (sheet_number self.old) (state H.places H.shown self.old) number level) result (state H.places H.shown self.new) }
         ensures refused { OnErr result (self.new ≡ self.old) }
         ensures sheet { SameSheet H.kept self.old self.new }
     {

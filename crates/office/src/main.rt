@@ -1,4 +1,4 @@
-// Reads book.txt and order.txt, and the events of a day on standard input, one a line; plays them on the order's sheet and prints
+// Reads book.txt and order.txt, and events on standard input, one a line; plays them on the order's sheet and prints
 // what each answers; or the refusal of the book or the order and the faulty line.
 #![tactic(auto)]
 

@@ -8,8 +8,8 @@ use Rattle.printing.specs.declared.failures.Failure.{Failure}
 use Rattle.printing.specs.declared.failures.Failure.TheVariants.{Faulty, OutOfMemory}
 use Rattle.printing.specs.Bounds.{bound_of}
 use Rattle.printing.specs.Refusals.{BookTold, OrderTold, SheetRefused}
-use Rattle.printing.specs.Cards.{counted, CardPrinted, Pruned, CardRefused}
-use Rattle.printing.specs.Steps.{Makes, PrunedBy, PruneEnds}
+use Rattle.printing.specs.Cards.{counted, CardPrinted, CardTold, CardRefused}
+use Rattle.printing.specs.Steps.{MadeOr, PrunedBy, PruneEnds}
 
 module _ (book card order : List ℕ) (b : BookTold book) (o : OrderTold order) (k : ℕ) (count : k ≡ min (length card / 27) 16) where
   abbrev rows : List ℕ
@@ -19,7 +19,7 @@ module _ (book card order : List ℕ) (b : BookTold book) (o : OrderTold order) 
   same_rows = ap (λ n. take (27 * n) card) count
 
   -- what is refused of the sheet of the rows is refused of the card
-  pub card_refused : (after : List ℕ) (e : Failure) → PruneEnds o.limit b.rules (card_places rows) (card_shown rows) (card_shown after) (Err e) → Makes {A = Unit {0}} (λ _. Unit {0}) (CardRefused book card order) (Err e)
+  pub card_refused : (after : List ℕ) (e : Failure) → PruneEnds o.limit b.rules (card_places rows) (card_shown rows) (card_shown after) (Err e) → MadeOr {A = Unit {0}} (λ _. Unit {0}) (CardRefused book card order) (Err e)
   card_refused after (Faulty f) x = inr (inr (b, o, subst (λ r. SheetRefused (bound_of o.limit).ops (bound_of o.limit).limit b.rules (card_places r) (card_shown r) f) same_rows x))
   card_refused after OutOfMemory x = tt
 
@@ -28,7 +28,7 @@ module _ (book card order : List ℕ) (b : BookTold book) (o : OrderTold order) 
   long after rest = omega (arith, rest.size, length-take (27 * k) card, count)
 
   -- the pruned rows, before what is not theirs
-  pub card_made : (after bytes : List ℕ) → bytes ≡ after → PrunedBy (bound_of o.limit).ops (bound_of o.limit).limit b.rules (card_places rows) (card_shown rows) (card_shown after) → CardRest rows after → Pruned book card order (after ++ drop (27 * k) card) bytes
+  pub card_made : (after bytes : List ℕ) → bytes ≡ after → PrunedBy (bound_of o.limit).ops (bound_of o.limit).limit b.rules (card_places rows) (card_shown rows) (card_shown after) → CardRest rows after → CardTold book card order (after ++ drop (27 * k) card) bytes
   card_made after bytes e x rest =
       let printed : CardPrinted (bound_of o.limit).ops (bound_of o.limit).limit b.rules card after (after ++ drop (27 * k) card) = record {
         least = x.0;

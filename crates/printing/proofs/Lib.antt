@@ -2,5 +2,6 @@ mod Refusing
 mod Leaving
 mod Quoting
 mod Joining
-mod Telling
+pub mod Telling
 mod Carding
+mod Uniqueness

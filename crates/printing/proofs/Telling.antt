@@ -13,8 +13,8 @@ use Rattle.printing.specs.declared.failures.Failure.{Failure}
 use Rattle.printing.specs.declared.failures.Failure.TheVariants.{Faulty, OutOfMemory}
 use Rattle.printing.specs.Bounds.{bound_of}
 use Rattle.printing.specs.Refusals.{BookTold, OrderTold, OrderRefused, SheetRefused}
-use Rattle.printing.specs.Quotes.{QuotePrinted, Quoted, QuoteRefused}
-use Rattle.printing.specs.Steps.{Makes}
+use Rattle.printing.specs.Quotes.{QuotePrinted, QuoteTold, QuoteRefused}
+use Rattle.printing.specs.Steps.{MadeOr}
 
 -- the book that was read is told
 abbrev pub book_told : {text : List ℕ} (b : Book) → Tells text b.parts (vec_items b.rules) → BookTold text
@@ -35,7 +35,7 @@ order_refused {order = order} {before = before} {after = after} f room x = never
 module _ (book order : List ℕ) (b : BookTold book) where
   module _ (o : OrderTold order) (n : ℕ) (shown : Pairs) (count : n ≡ length o.places) (pairs : shown ≡ drawn_pairs o.places) where
     -- a quote of the sheet that the order draws
-    pub quote_told : {Z : Type 0} (r : Result (Vec ℕ Z) Failure) → Makes (λ v. QuotePrinted (bound_of o.limit).ops (bound_of o.limit).text (bound_of o.limit).limit b.rules n shown (vec_items v)) (SheetRefused (bound_of o.limit).ops (bound_of o.limit).limit b.rules n shown) r → Makes (λ v. Quoted book order (vec_items v)) (QuoteRefused book order) r
+    pub quote_told : {Z : Type 0} (r : Result (Vec ℕ Z) Failure) → MadeOr (λ v. QuotePrinted (bound_of o.limit).ops (bound_of o.limit).text (bound_of o.limit).limit b.rules n shown (vec_items v)) (SheetRefused (bound_of o.limit).ops (bound_of o.limit).limit b.rules n shown) r → MadeOr (λ v. QuoteTold book order (vec_items v)) (QuoteRefused book order) r
     quote_told (Ok v) x = (b, o, subst (λ f. QuotePrinted (bound_of o.limit).ops (bound_of o.limit).text (bound_of o.limit).limit b.rules (length o.places) f (vec_items v)) pairs (subst (λ m. QuotePrinted (bound_of o.limit).ops (bound_of o.limit).text (bound_of o.limit).limit b.rules m shown (vec_items v)) count x))
     quote_told (Err (Faulty f)) x = inr (inr (b, o, subst (λ g. SheetRefused (bound_of o.limit).ops (bound_of o.limit).limit b.rules (length o.places) g f) pairs (subst (λ m. SheetRefused (bound_of o.limit).ops (bound_of o.limit).limit b.rules m shown f) count x)))
     quote_told (Err OutOfMemory) x = tt

@@ -9,7 +9,7 @@ use Rattle.order.specs.Texts.{drawn_pairs}
 use Rattle.planner.specs.Outcomes.{PrunedTo, QuotedAs}
 use Rattle.report.specs.Sheets.{sheet_text}
 use Rattle.printing.specs.Bounds.{bound_of}
-use Rattle.printing.specs.Refusals.{BookTold, OrderTold, SheetRefused, Refuses}
+use Rattle.printing.specs.Refusals.{BookTold, OrderTold, SheetRefused, FirstRefused}
 
 -- `cost` and what the run costs, `run` and its strokes, `struck` and how many strokes the prune closed, and a line for each
 -- place with the strokes that it left open
@@ -30,11 +30,16 @@ pub record QuotePrinted {S : Type 0} (o : Ops S) (text : S → List ℕ) (limit 
   pub quoted : QuotedAs o (prices o rules) rules n after limit [] run cost
   pub printed : bytes ≡ quote_text (text cost) run closed after n
 
+-- a quote is printed in one way only
+abbrev pub OneQuotePrint : {S : Type 0} → Ops S → Type 0
+OneQuotePrint {S} o =
+    (text : S → List ℕ) (limit : S) (rules : List Rule) (n : ℕ) (before : Pairs) (one two : List ℕ) → QuotePrinted o text limit rules n before one → QuotePrinted o text limit rules n before two → one ≡ two
+
 module _ (book order : List ℕ) where
   -- both texts are told, and the order's sheet is pruned and quoted within its limit
-  abbrev pub Quoted : List ℕ → Type 0
-  Quoted bytes = (b : BookTold book) × (o : OrderTold order) × QuotePrinted (bound_of o.limit).ops (bound_of o.limit).text (bound_of o.limit).limit b.rules (length o.places) (drawn_pairs o.places) bytes
+  abbrev pub QuoteTold : List ℕ → Type 0
+  QuoteTold bytes = (b : BookTold book) × (o : OrderTold order) × QuotePrinted (bound_of o.limit).ops (bound_of o.limit).text (bound_of o.limit).limit b.rules (length o.places) (drawn_pairs o.places) bytes
 
   -- a fault of the book, of the order, or of the sheet that the order draws
   abbrev pub QuoteRefused : Fault → Type 0
-  QuoteRefused f = Refuses book order (λ b o f. SheetRefused (bound_of o.limit).ops (bound_of o.limit).limit b.rules (length o.places) (drawn_pairs o.places) f) f
+  QuoteRefused f = FirstRefused book order (λ b o f. SheetRefused (bound_of o.limit).ops (bound_of o.limit).limit b.rules (length o.places) (drawn_pairs o.places) f) f

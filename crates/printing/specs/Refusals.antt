@@ -37,8 +37,8 @@ SheetRefused o limit rules n shown f =
     ((n ≡ 0) × (f ≡ on_sheet BadLength)) ⊎ ((0 < n) × (f ≡ on_sheet NoRun) × NoneWithin o (prices o rules) rules n shown limit)
 
 -- the book is refused, or there is no memory for a rule of it; else the order is refused; else the sheet is
-abbrev pub Refuses : (book_text order_text : List ℕ) → (BookTold book_text → OrderTold order_text → Fault → Type 0) → Fault → Type 0
-Refuses book_text order_text OfSheet f =
+abbrev pub FirstRefused : (book_text order_text : List ℕ) → (BookTold book_text → OrderTold order_text → Fault → Type 0) → Fault → Type 0
+FirstRefused book_text order_text OfSheet f =
     book.Outcome book_text (Err f)
     ⊎ ((BookTold book_text × OrderRefused order_text f)
     ⊎ ((b : BookTold book_text) × (o : OrderTold order_text) × OfSheet b o f))

@@ -16,10 +16,10 @@ use Rattle.printing.specs.declared.failures.Failure.{Failure}
 use Rattle.printing.specs.declared.failures.Failure.TheVariants as failure
 
 -- what is made is as it should be; or there is such a fault; or there is no memory
-abbrev pub Makes : {A : Type 0} → (A → Type 0) → (Fault → Type 0) → Result A Failure → Type 0
-Makes Good Faulty (Ok a) = Good a
-Makes Good Faulty (Err (failure.Faulty f)) = Faulty f
-Makes Good Faulty (Err failure.OutOfMemory) = Unit {0}
+abbrev pub MadeOr : {A : Type 0} → (A → Type 0) → (Fault → Type 0) → Result A Failure → Type 0
+MadeOr Good Faulty (Ok a) = Good a
+MadeOr Good Faulty (Err (failure.Faulty f)) = Faulty f
+MadeOr Good Faulty (Err failure.OutOfMemory) = Unit {0}
 
 -- the error of a report says this fault of the two texts, or is of want of memory
 abbrev pub FaultSaid : List ℕ → List ℕ → Fault → ReportError → Type 0
@@ -39,4 +39,4 @@ PrunedBy {S} o limit rules n before after = (least : S) × (closed : ℕ) × Pru
 -- how the prune of a sheet within an order's limit ends
 abbrev pub PruneEnds : Limit → List Rule → ℕ → Pairs → Pairs → Result (Unit {0}) Failure → Type 0
 PruneEnds l rules n before after r =
-    Makes (λ _. PrunedBy (bound_of l).ops (bound_of l).limit rules n before after) (SheetRefused (bound_of l).ops (bound_of l).limit rules n before) r
+    MadeOr (λ _. PrunedBy (bound_of l).ops (bound_of l).limit rules n before after) (SheetRefused (bound_of l).ops (bound_of l).limit rules n before) r

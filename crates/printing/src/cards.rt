@@ -4,15 +4,16 @@ ghost use Rattle.order.specs.Statements.{ShortLimit, InRange};
 ghost use Rattle.sheet.specs.Cards.{card_places, card_shown, CardRest};
 ghost use Rattle.printing.specs.Bounds.{bound_of};
 ghost use Rattle.printing.specs.Refusals.{SheetRefused};
-ghost use Rattle.printing.specs.Cards.{counted, Pruned, CardRefused};
+ghost use Rattle.printing.specs.Cards.{counted, OneCardPrint, CardTold, CardRefused};
 ghost use Rattle.printing.specs.Reports.{CardReport};
-ghost use Rattle.printing.specs.Steps.{Makes, PruneEnds};
+ghost use Rattle.printing.specs.Steps.{MadeOr, PruneEnds};
 
 use crate::failures::Failure;
 use crate::prunes::prune_by;
 use book::Book;
 use order::Limit;
 use report::ReportError;
+use scale::Scale;
 use sheet::CardSheet;
 use std::alloc::Global;
 
@@ -30,7 +31,7 @@ fn prune_rows(heap: Global, book: &Book, rows: &mut [u8], limit: Limit) -> Resul
 
 // What is printed where neither text and no sheet is at fault.
 fn pruned(heap: Global, book: &[u8], card: &mut [u8], order: &[u8]) -> Result<Vec<u8>, Failure>
-    ensures made { Makes (λ v. Pruned book.now card.old order.now card.new v.items) (CardRefused book.now card.old order.now) result }
+    ensures made { MadeOr (λ v. CardTold book.now card.old order.now card.new v.items) (CardRefused book.now card.old order.now) result }
     ensures refused { OnErr result (card.new ≡ card.old) }
 {
     let book = book::read(heap, book)?;
@@ -61,3 +62,8 @@ pub fn card_report(
         Err(failure) => Err(failure.error(heap, book, order)),
     }
 }
+
+// The rules of a book, a card and the limit of an order settle what is printed of the card, and what it holds then.
+pub fn one_card_print<S: Scale>()
+    ensures { OneCardPrint S.ops }
+{}

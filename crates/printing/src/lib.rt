@@ -3,10 +3,11 @@
 
 mod cards;
 mod failures;
+mod prices;
 mod prunes;
 mod quotes;
 
-pub use cards::card_report;
+pub use cards::{card_report, one_card_print};
 pub use failures::fault_error;
-pub use prunes::entries;
-pub use quotes::quote_report;
+pub use prices::Printed;
+pub use quotes::{one_quote_print, quote_report};

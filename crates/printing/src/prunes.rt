@@ -2,27 +2,18 @@
 ghost use Rattle.std.specs.Prelude.{◌≡◌, ◌≤◌, ℕ, List, false, OnErr, Some, length};
 ghost use Rattle.order.specs.Statements.{ShortLimit, InRange};
 ghost use Rattle.derivations.specs.Trees.{prices};
-ghost use Rattle.planner.specs.Boards.{board_entries};
 ghost use Rattle.planner.specs.Outcomes.{PrunedTo};
 ghost use Rattle.printing.specs.Bounds.{bound_of};
 ghost use Rattle.printing.specs.Refusals.{SheetRefused};
-ghost use Rattle.printing.specs.Steps.{Makes, PruneEnds};
+ghost use Rattle.printing.specs.Steps.{MadeOr, PruneEnds};
 
 use crate::failures::Failure;
 use book::Book;
 use order::Limit;
-use planner::{Pruned, prune};
+use planner::{Pruned, board_entries, prune};
 use scale::{Grade, Scale, Time, TimeGrade};
 use sheet::Sheet;
 use std::alloc::Global;
-
-// How many entries a board has for the sheet and the book.
-pub fn entries<H: Sheet>(sheet: &H, book: &Book) -> usize
-    ensures { result ≡ board_entries (H.places sheet.now) book.now.parts }
-{
-    let places = sheet.length();
-    places * (places + 1) / 2 * book.parts() as usize
-}
 
 // Prunes the sheet within a limit of any scale.
 pub(crate) fn prune_on<S: Scale, H: Sheet>(
@@ -32,11 +23,11 @@ pub(crate) fn prune_on<S: Scale, H: Sheet>(
     limit: S,
 ) -> Result<Pruned<S>, Failure>
     requires open { S.ops.le S.ops.barred limit ≡ false }
-    ensures answer { Makes (λ p. PrunedTo S.ops (prices S.ops book.now.rules.items) book.now.rules.items (H.places sheet.old) (H.shown sheet.old) limit (H.shown sheet.new) p.least p.closed) (SheetRefused S.ops limit book.now.rules.items (H.places sheet.old) (H.shown sheet.old)) result }
+    ensures answer { MadeOr (λ p. PrunedTo S.ops (prices S.ops book.now.rules.items) book.now.rules.items (H.places sheet.old) (H.shown sheet.old) limit (H.shown sheet.new) p.least p.closed) (SheetRefused S.ops limit book.now.rules.items (H.places sheet.old) (H.shown sheet.old)) result }
     ensures sheet { OnErr result (sheet.new ≡ sheet.old) }
     ensures memory { H.kept sheet.old sheet.new }
 {
-    let room = entries(sheet, book);
+    let room = board_entries(sheet, book);
     let mut inside = vec![in heap; S::barred(); room]?;
     let mut outside = vec![in heap; S::barred(); room]?;
     Ok(prune(sheet, book, limit, &mut inside, &mut outside)?)

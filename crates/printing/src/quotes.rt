@@ -4,15 +4,16 @@ ghost use Rattle.order.specs.Statements.{ShortLimit, InRange};
 ghost use Rattle.derivations.specs.Trees.{prices};
 ghost use Rattle.printing.specs.Bounds.{bound_of};
 ghost use Rattle.printing.specs.Refusals.{SheetRefused};
-ghost use Rattle.printing.specs.Quotes.{quote_text, QuotePrinted, Quoted, QuoteRefused};
+ghost use Rattle.printing.specs.Quotes.{quote_text, QuotePrinted, OneQuotePrint, QuoteTold, QuoteRefused};
 ghost use Rattle.printing.specs.Reports.{QuoteReport};
-ghost use Rattle.printing.specs.Steps.{Makes};
+ghost use Rattle.printing.specs.Steps.{MadeOr};
 
 use crate::failures::Failure;
-use crate::prunes::{entries, prune_on};
+use crate::prices::Printed;
+use crate::prunes::prune_on;
 use book::Book;
 use order::Limit;
-use planner::quote;
+use planner::{board_entries, quote};
 use report::{ReportError, put_sheet};
 use scale::{Grade, Scale, Time, TimeGrade};
 use sheet::{MaskSheet, Sheet};
@@ -41,17 +42,17 @@ fn quote_text<C: Display, H: Sheet>(
 }
 
 // Prunes the sheet, quotes it and tells both, within a limit of any scale.
-fn quote_on<S: Scale + Display, H: Sheet>(
+fn quote_on<S: Printed, H: Sheet>(
     heap: Global,
     book: &Book,
     sheet: &mut H,
     limit: S,
 ) -> Result<Vec<u8>, Failure>
     requires open { S.ops.le S.ops.barred limit ≡ false }
-    ensures { (text : S → List ℕ) → ((c : S) → S.output c ≡ Some (text c)) → Makes (λ v. QuotePrinted S.ops text limit book.now.rules.items (H.places sheet.old) (H.shown sheet.old) v.items) (SheetRefused S.ops limit book.now.rules.items (H.places sheet.old) (H.shown sheet.old)) result }
+    ensures { MadeOr (λ v. QuotePrinted S.ops S.price_text limit book.now.rules.items (H.places sheet.old) (H.shown sheet.old) v.items) (SheetRefused S.ops limit book.now.rules.items (H.places sheet.old) (H.shown sheet.old)) result }
 {
     let closed = prune_on(heap, book, sheet, limit)?.closed;
-    let room = entries(sheet, book);
+    let room = board_entries(sheet, book);
     let mut inside = vec![in heap; S::barred(); room]?;
     let mut choices = vec![in heap; 0u32; room]?;
     let mut run = vec![in heap; b'.'; sheet.length()]?;
@@ -68,7 +69,7 @@ fn quote_by<H: Sheet>(
 ) -> Result<Vec<u8>, Failure>
     requires short { ShortLimit limit }
     requires ranged { InRange limit }
-    ensures { Makes (λ v. QuotePrinted (bound_of limit).ops (bound_of limit).text (bound_of limit).limit book.now.rules.items (H.places sheet.old) (H.shown sheet.old) v.items) (SheetRefused (bound_of limit).ops (bound_of limit).limit book.now.rules.items (H.places sheet.old) (H.shown sheet.old)) result }
+    ensures { MadeOr (λ v. QuotePrinted (bound_of limit).ops (bound_of limit).text (bound_of limit).limit book.now.rules.items (H.places sheet.old) (H.shown sheet.old) v.items) (SheetRefused (bound_of limit).ops (bound_of limit).limit book.now.rules.items (H.places sheet.old) (H.shown sheet.old)) result }
 {
     match limit {
         Limit::Time(time) => quote_on(heap, book, sheet, Time::new(time)),
@@ -79,7 +80,7 @@ fn quote_by<H: Sheet>(
 
 // What is printed where neither text and no sheet is at fault.
 fn quoted(heap: Global, book: &[u8], order: &[u8]) -> Result<Vec<u8>, Failure>
-    ensures { Makes (λ v. Quoted book.now order.now v.items) (QuoteRefused book.now order.now) result }
+    ensures { MadeOr (λ v. QuoteTold book.now order.now v.items) (QuoteRefused book.now order.now) result }
 {
     let book = book::read(heap, book)?;
     // The memory of the sheet, lent to the reader: as many numbers as an order may have places.
@@ -99,3 +100,8 @@ pub fn quote_report(heap: Global, book: &[u8], order: &[u8]) -> Result<Vec<u8>, 
         Err(failure) => Err(failure.error(heap, book, order)),
     }
 }
+
+// The rules of a book, the sheet of an order and its limit settle what is printed of the order.
+pub fn one_quote_print<S: Scale>()
+    ensures { OneQuotePrint S.ops }
+{}

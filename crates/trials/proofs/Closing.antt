@@ -1,15 +1,14 @@
--- What a prune within a limit leaves open and closes, by a test of the derivations over the sheet; and that no run is within
--- a limit that the least cost is above.
+-- What a prune within a limit leaves open and closes, by a test of the derivations over the sheet.
 use Rattle.std.proofs.Common.{◌≡◌, ℕ, Bool, true, false, not, ◌&&◌, List, refl, inl, inr, arith}
 use Rattle.std.proofs.lemmas.Bool.{and_parts, and_from, both_ways, not-true, not-false, false_from_ne_true, not_from_false}
 use Rattle.scale.specs.Ops.{Ops, Laws}
 use Rattle.book.specs.declared.rules.Rule.{Rule}
 use Rattle.sheet.specs.Pairs.{Pairs}
 use Rattle.derivations.specs.Trees.{Tree, strokes, Weights, weight}
-use Rattle.derivations.specs.Costs.{LeastOver, has, cost, least_cost}
-use Rattle.derivations.specs.Runs.{NoneWithin, Supported}
+use Rattle.derivations.specs.Costs.{LeastOver, has, least_cost}
+use Rattle.derivations.specs.Runs.{Supported}
 use Rattle.derivations.proofs.Costing.{weight_is_least}
-use Rattle.derivations.proofs.Running.{run_of, derives_its_run, open_run_derives, cost_least, runs_above, over_sheet_cheapest}
+use Rattle.derivations.proofs.Running.{run_of, derives_its_run, open_run_derives, cost_least, over_sheet_cheapest}
 use Rattle.planner.specs.Counts.{count_pairs}
 use Rattle.planner.specs.Outcomes.{PrunedTo}
 use Rattle.trials.proofs.Deciding.{each_derivation, each_passes, some_fails}
@@ -28,7 +27,7 @@ count_closed n before after = count_pairs n (λ p c. before p c && not (after p 
 
 module _ {S : Type 0} {o : Ops S} (laws : Laws o) (W : Weights S) (rules : List Rule) (n : ℕ) (shown : Pairs) (limit : S) where
   -- the least weight over the sheet is the one that is computed
-  least_over : LeastOver o W rules shown 0 0 n (least_cost o W rules n shown)
+  pub least_over : LeastOver o W rules shown 0 0 n (least_cost o W rules n shown)
   least_over = weight_is_least laws W rules shown n 0 0 n (omega arith)
 
   -- what some run within the limit has, some derivation within the limit has
@@ -59,7 +58,3 @@ module _ {S : Type 0} {o : Ops S} (laws : Laws o) (W : Weights S) (rules : List 
     within = within;
     count = count;
   }
-
-  -- where the least cost is above the limit, no open run is within it
-  pub none_within : o.le (least_cost o W rules n shown) limit ≡ false → NoneWithin o W rules n shown limit
-  none_within above run h = both_ways _ above (laws.transitive _ (cost o W rules run) limit (runs_above laws W rules shown n _ least_over run h.is_open) h.within)

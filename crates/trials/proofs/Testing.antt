@@ -13,11 +13,12 @@ use Rattle.scale.specs.TimeGrades.{time_grade_ops}
 use Rattle.scale.specs.TimeGradesLemmas.{time_grade_laws}
 use Rattle.derivations.specs.Trees.{Tree, strokes, weight, prices}
 use Rattle.derivations.specs.Costs.{cost, least_cost}
+use Rattle.planner.proofs.Searching.{none_within}
 use Rattle.planner.proofs.Uniqueness.{one_pruned, one_quoted}
 use Rattle.trials.specs.Jig.{jig, places, sheet}
 use Rattle.trials.specs.Trials.{Row, costs, closes, refuses, quotes, Trial, makes_book, by_time, by_grade, by_time_grade, RowHolds, Holds, AllHold}
 use Rattle.trials.proofs.Deciding.{each_derivation, some_fails}
-use Rattle.trials.proofs.Closing.{left_open, count_closed, prunes_to, none_within}
+use Rattle.trials.proofs.Closing.{left_open, count_closed, least_over, prunes_to}
 use Rattle.trials.proofs.Quoting.{is_chosen, quotes_as}
 use Rattle.trials.proofs.Ranging.{is_book, lawful_from}
 
@@ -62,7 +63,8 @@ module _ {S : Type 0} {o : Ops S} (laws : Laws o) where
       (not-true _ opened.0, (left, least, it), λ after least' other h. (one_pruned laws W jig places sheet limit after left least' least other closed h it).2)
   row_holds (refuses limit) h =
       let opened = and_parts (not (o.le o.barred limit)) _ h in
-      (not-true _ opened.0, none_within laws (prices o jig) jig places sheet limit (not-true _ opened.1))
+      let W = prices o jig in
+      (not-true _ opened.0, none_within laws W jig places sheet limit _ (least_over laws W jig places sheet limit) (not-true _ opened.1))
   row_holds (quotes limit run price) h = (
     not-true _ (and_parts (not (o.le o.barred limit)) _ h).0,
     λ lent long.

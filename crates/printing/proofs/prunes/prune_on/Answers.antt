@@ -8,6 +8,6 @@ returns-in_err-prune-clause-answer g c =
     let p = err_from_is_err_and c.from_residual-in_err-prune.result c.from_residual-in_err-prune.ensures.1 in
     let left =
     prune_left g.S.Scale.ops (g.H.Sheet.places c.args.sheet.now) c.args.book.now.parts c.args.limit c.requires.open _ _
-    (c.deref_mut.ensures.len ∙ c.in_ok-inside.ensures.len ∙ c.entries-room.ensures)
-    (c.deref_mut-2.ensures.len ∙ c.in_ok-outside.ensures.len ∙ c.entries-room.ensures) in
+    (c.deref_mut.ensures.len ∙ c.in_ok-inside.ensures.len ∙ c.board_entries-room.ensures)
+    (c.deref_mut-2.ensures.len ∙ c.in_ok-outside.ensures.len ∙ c.board_entries-room.ensures) in
     rw (p.1, p.2) (refused_left _ _ _ _ _ left c.in_err-prune.ensures.answer)

@@ -1,4 +1,4 @@
--- The lines of a day's text, each with what it states or why it is refused. Assumes nothing.
+-- The text of events: its lines, each with what it states or why it is refused. Assumes nothing.
 use Rattle.std.specs.Prelude.{◌≡◌, ◌<◌, ℕ, List, [], ◌∷◌, ◌⊎◌, length, Result, Ok, Err}
 use Rattle.refusal.specs.declared.Refusal.{Refusal}
 use Rattle.refusal.specs.declared.Refusal.TheVariants.{UnknownLine}
@@ -8,34 +8,34 @@ use Rattle.answers.specs.declared.lines.EventLine.{EventLine}
 use Rattle.answers.specs.Notations.{Notation}
 use Rattle.answers.specs.Lines.{LineRead}
 
--- a line of a day: an event that it states, or its refusal and its bytes
-pub data DayLine (S : Type 0) : Type 0 where
-  event : EventLine S → DayLine S
-  refused : Refusal → List ℕ → DayLine S
+-- a line of such a text: an event that it states, or its refusal and its bytes
+pub data EventTextLine (S : Type 0) : Type 0 where
+  event : EventLine S → EventTextLine S
+  refused : Refusal → List ℕ → EventTextLine S
 
 -- how it is read
-abbrev pub reading_of : {S : Type 0} → DayLine S → Result (EventLine S) Refusal
+abbrev pub reading_of : {S : Type 0} → EventTextLine S → Result (EventLine S) Refusal
 reading_of (event said) = Ok said
 reading_of (refused r bytes) = Err r
 
 -- the first line of the text, which byte 10 or the end of the text ends, and what follows it
-abbrev pub Cut : (text line after : List ℕ) → Type 0
-Cut text line after = Starts text line after ⊎ (Lacks 10 text × (line ≡ text) × (after ≡ []))
+abbrev pub FirstLineOf : (text line after : List ℕ) → Type 0
+FirstLineOf text line after = Starts text line after ⊎ (Lacks 10 text × (line ≡ text) × (after ≡ []))
 
 module _ {S : Type 0} (notation : Notation S) where
   -- the text is not empty, its first line is such, and after follows it; a last line that byte 10 does not end is refused
   -- as one of no known word, whatever it says
-  abbrev pub FirstRead : List ℕ → DayLine S → List ℕ → Type 0
+  abbrev pub FirstRead : List ℕ → EventTextLine S → List ℕ → Type 0
   FirstRead text (event said) after = (line : List ℕ) × Starts text line after × LineRead notation line (Ok said)
   FirstRead text (refused r bytes) after =
       (Starts text bytes after × LineRead notation bytes (Err r))
       ⊎ ((0 < length text) × Lacks 10 text × (bytes ≡ text) × (after ≡ []) × (r ≡ UnknownLine))
 
   -- the text is these lines
-  abbrev pub Lined : List ℕ → List (DayLine S) → Type 0
+  abbrev pub Lined : List ℕ → List (EventTextLine S) → Type 0
   Lined text [] = text ≡ []
   Lined text (line ∷ lines) = (after : List ℕ) × FirstRead text line after × Lined after lines
 
   -- a text has its lines in one way only
-  abbrev pub OneDay : Type 0
-  OneDay = (text : List ℕ) (one two : List (DayLine S)) → Lined text one → Lined text two → one ≡ two
+  abbrev pub OneLining : Type 0
+  OneLining = (text : List ℕ) (one two : List (EventTextLine S)) → Lined text one → Lined text two → one ≡ two
