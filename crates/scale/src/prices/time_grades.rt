@@ -60,9 +60,32 @@ impl Scale for TimeGrade {
         self <= other
     }
 
+    // As for any scale, but made anew of its two numbers: so a loop keeps each in a register of its own.
+    fn lesser(self, other: TimeGrade) -> TimeGrade {
+        if self.at_most(other) {
+            TimeGrade {
+                tenths: self.tenths,
+                level: self.level,
+            }
+        } else {
+            TimeGrade {
+                tenths: other.tenths,
+                level: other.level,
+            }
+        }
+    }
+
+    // Where a grade is barred so is its time, and so is the sum: the sum alone says whether the join is barred.
     fn join(self, other: TimeGrade) -> TimeGrade {
         let tenths = self.tenths.saturating_add(other.tenths);
-        TimeGrade::new(tenths, self.level.max(other.level))
+        if tenths < u32::MAX {
+            TimeGrade {
+                tenths,
+                level: self.level.max(other.level),
+            }
+        } else {
+            TimeGrade::barred()
+        }
     }
 
     fn free() -> TimeGrade {
