@@ -9,13 +9,9 @@ use Rattle.sheet.specs.Pairs.{Pairs}
 use Rattle.derivations.specs.Least.{LeastOf}
 use Rattle.derivations.specs.Trees.{Tree, cut, pair, width, rule_at, Makes, Weights, weight}
 use Rattle.derivations.specs.Costs.{DerivesOver, LeastOver, least_below, weight_by, least_weight}
-use Rattle.derivations.specs.Ties.{first_rule}
+use Rattle.derivations.specs.Ties.{first_rule, DerivesByRule}
 use Rattle.derivations.proofs.Minima.{Under, least_none, least_one, least_same, least_plus, least_both, least_through, least_count, least_union, least_costs, least_till}
 use Rattle.derivations.proofs.Deriving.{width_some, cut_not_pair, one_cut, derives_size, derives_listed, derives_part, derives_halves, derives_none}
-
--- a derivation by the rule at the index first
-abbrev pub DerivesByRule : List Rule → Pairs → ℕ → ℕ → ℕ → ℕ → Tree → Type 0
-DerivesByRule rules shown part before len r t = DerivesOver rules shown part before len t × (first_rule t ≡ r)
 
 -- the two halves of a derivation by a pair rule that is split after m + 1 places
 abbrev pub Halves : List Rule → Pairs → ℕ → ℕ → ℕ → ℕ → ℕ → Tree × Tree → Type 0

@@ -8,6 +8,13 @@ use Rattle.derivations.specs.Least.{LeastOf}
 abbrev pub Under : {X : Type 0} → ℕ → (ℕ → X → Type 0) → X → Type 0
 Under m R x = (j : ℕ) × (j < m) × R j x
 
+-- it passes an earlier test or the last
+under_next : {X : Type 0} (R : ℕ → X → Type 0) (m : ℕ) (x : X) → Under (m + 1) R x → Under m R x ⊎ R m x
+under_next R m x u = elim (cases_lt u.0 m) [
+  | inl less ↦ inl (u.0, less, u.2)
+  | inr more ↦ let last : u.0 ≡ m = omega (arith, u.1) in inr (rw last at u.2)
+]
+
 module _ {S : Type 0} {o : Ops S} (laws : Laws o) where
   pub le_join : (a b c d : S) → o.le a b ≡ true → o.le c d ≡ true → o.le (o.join a c) (o.join b d) ≡ true
   le_join a b c d h k =
@@ -109,6 +116,14 @@ module _ {S : Type 0} {o : Ops S} (laws : Laws o) where
       | inr t ↦ elim (each t.0 t.1).met [ inl e ↦ inl (sym t.2 ∙ e) | inr u ↦ inr (u.0, (t.0, t.1, u.1), u.2 ∙ t.2) ]
     ];
   }
+
+  -- one test more
+  pub least_next : {X : Type 0} (R : ℕ → X → Type 0) (w : X → S) (m : ℕ) (a b : S) → LeastOf o (Under m R) w a → LeastOf o (R m) w b → LeastOf o (Under (m + 1) R) w (lesser_of o a b)
+  least_next R w m a b l last =
+      least_same (λ x. Under m R x ⊎ R m x) (Under (m + 1) R) w (lesser_of o a b)
+      (λ x. elim [ inl u ↦ (u.0, omega (arith, u.1), u.2) | inr h ↦ (m, omega arith, h) ])
+      (under_next R m)
+      (least_either (Under m R) (R m) w a b l last)
 
   -- other costs, that are the same where the test passes
   pub least_costs : {X : Type 0} (P : X → Type 0) (w v : X → S) (c : S) → ((x : X) → P x → v x ≡ w x) → LeastOf o P w c → LeastOf o P v c

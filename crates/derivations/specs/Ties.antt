@@ -1,4 +1,4 @@
--- The tie rule: which of the cheapest derivations is taken. Assumes nothing.
+-- The first rule and the split of a derivation, and the tie rule: which of the cheapest derivations is taken. Assumes nothing.
 use Rattle.std.specs.Prelude.{◌≡◌, ℕ, ◌+◌, ◌<◌, ◌≤◌, true, ◌⊎◌, List}
 use Rattle.scale.specs.Ops.{Ops}
 use Rattle.book.specs.declared.rules.RightSide.TheVariants.{Pair}
@@ -16,6 +16,10 @@ first_rule (pair r a b) = r
 abbrev pub split : Tree → ℕ
 split (cut r) = 0
 split (pair r a b) = width a
+
+-- a derivation of the part over these places whose first rule has the index r
+abbrev pub DerivesByRule : List Rule → Pairs → ℕ → ℕ → ℕ → ℕ → Tree → Type 0
+DerivesByRule rules shown part before len r t = DerivesOver rules shown part before len t × (first_rule t ≡ r)
 
 -- t is split lower than u, or as low and by no higher rule
 abbrev pub NotAfter : Tree → Tree → Type 0

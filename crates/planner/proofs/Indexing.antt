@@ -1,6 +1,7 @@
 -- Where the entries of a board stand: no two share an index, and those of a span come before those of larger ones.
 use Rattle.std.proofs.Common.{◌≡◌, ℕ, zero, suc, ◌+◌, ◌-◌, ◌*◌, ◌/◌, ◌<◌, ◌≤◌, sym, refl, ap, ◌∙◌, subst, inl, inr, le_refl, suc-mul, mul_comm, zero-add, mul-add, arith}
 use Rattle.std.proofs.lemmas.Bool.{cases_lt, cases_order}
+use Rattle.std.proofs.Math.Nat.{add-mul}
 use Rattle.std.proofs.lemmas.Nat.{mul-le, mul-add-lt, div-mul-add}
 use Rattle.planner.specs.Boards.{board_entries, spans_before, span_number, entry_index}
 
@@ -82,6 +83,10 @@ index_in_board k before len p n size h some few room = omega (arith, index_below
 pub index_left : (k before len m p size : ℕ) → p < k → 1 ≤ m → m < len → span_number before len * k ≤ size → entry_index k before m p < size
 index_left k before len m p size h some less room = omega (arith, index_below k (span_number before m) (span_number before len) p h (number_left before len m some less))
 
+-- and of its right halves
+pub index_right : (k before len m p size : ℕ) → p < k → 1 ≤ m → m < len → span_number before len * k ≤ size → entry_index k (before + m) (len - m) p < size
+index_right k before len m p size h some less room = omega (arith, index_below k (span_number (before + m) (len - m)) (span_number before len) p h (number_right before len m some less))
+
 pub rows_within : (a b k : ℕ) → a ≤ b → a * k ≤ b * k
 rows_within a b k h = mul-le a k b k h (le_refl k)
 
@@ -98,3 +103,24 @@ same_index k b l p c m q hl hm hp hq h =
     let s = same_span b l c m hl hm spans in
     let rows : span_number b l * k ≡ span_number c m * k = ap (λ x. x * k) spans in
     (s.0, s.1, omega (arith, h, rows))
+
+-- the numbers of spans are small
+pub number_few : (before len : ℕ) → 1 ≤ len → before + len ≤ 24 → span_number before len < 300
+number_few before len some few = let all : spans_before 24 ≡ 300 = refl in omega (arith, all, number_within before len 24 some few)
+
+-- from the left half at one split to that at the next
+pub left_next : (k before m p : ℕ) → 1 ≤ m → entry_index k before m p + (before + m + 1) * k ≡ entry_index k before (m + 1) p
+left_next k before m p some =
+    let next : span_number before (m + 1) ≡ span_number before m + (before + m + 1) = let same : before + (m + 1) - 1 ≡ before + m = omega arith in rw same (omega (arith, spans_last (before + m) (omega arith))) in
+    let rows = add-mul (span_number before m) (before + m + 1) k in
+    let both : span_number before (m + 1) * k ≡ (span_number before m + (before + m + 1)) * k = ap (λ x. x * k) next in
+    omega (arith, rows, both)
+
+-- the right half stands as many rows before the whole span as the left one has places
+pub right_back : (k before len m p : ℕ) → m < len → entry_index k (before + m) (len - m) p + m * k ≡ entry_index k before len p
+right_back k before len m p less =
+    let end : before + m + (len - m) - 1 ≡ before + len - 1 = omega arith in
+    let back : span_number before len ≡ span_number (before + m) (len - m) + m = rw end (omega arith) in
+    let rows = add-mul (span_number (before + m) (len - m)) m k in
+    let both : span_number before len * k ≡ (span_number (before + m) (len - m) + m) * k = ap (λ x. x * k) back in
+    omega (arith, rows, both)

@@ -2,6 +2,7 @@ pub mod Indexing
 pub mod Building
 pub mod Filling
 pub mod Uniqueness
+pub mod Weighing
 pub mod Searching
 pub mod Keeping
 pub mod Drawing

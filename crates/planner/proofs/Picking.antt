@@ -1,6 +1,7 @@
 -- The first split and rule that attain the least weight.
-use Rattle.std.proofs.Common.{◌≡◌, ℕ, ◌+◌, ◌≤◌, true, false, if◌then◌else◌, ◌==◌, List, length, sym, refl, ◌∙◌, inl, inr, arith}
+use Rattle.std.proofs.Common.{◌≡◌, ℕ, ◌+◌, ◌<◌, ◌≤◌, ◌⊎◌, true, false, if◌then◌else◌, ◌==◌, List, length, sym, refl, ◌∙◌, inl, inr, arith}
 use Rattle.std.proofs.lemmas.Bool.{both_ways, cases_lt, cases_order}
+use Rattle.std.proofs.lemmas.Bool.Decides.{nat_tests}
 use Rattle.scale.specs.Ops.{Ops, Laws}
 use Rattle.book.specs.declared.rules.Rule.{Rule}
 use Rattle.sheet.specs.Pairs.{Pairs}
@@ -10,10 +11,21 @@ use Rattle.derivations.specs.Costs.{DerivesOver, LeastOver}
 use Rattle.derivations.specs.Ties.{first_rule, split, NotAfter}
 use Rattle.derivations.proofs.Deriving.{derives_listed, derives_part, derives_split}
 use Rattle.planner.specs.Boards.{span_number}
-use Rattle.planner.specs.Charts.{Filled, Inside, DerivesBy, Seen}
-use Rattle.planner.specs.Codes.{code_of, Picked}
+use Rattle.planner.specs.Charts.{Filled, Inside}
+use Rattle.planner.specs.Codes.{code_of, DerivesBySplit, Picked}
 use Rattle.planner.proofs.Indexing.{number_within, number_back}
-use Rattle.planner.proofs.Filling.{seen_next, none_shorter}
+
+-- the left half has fewer than m places, or just m and the first rule stands before index r
+abbrev pub Seen : ℕ → ℕ → Tree → Type 0
+Seen m r t = (split t < m) ⊎ ((split t ≡ m) × (first_rule t < r))
+
+seen_next : (m r : ℕ) (t : Tree) → Seen m (r + 1) t → Seen m r t ⊎ ((split t ≡ m) × (first_rule t ≡ r))
+seen_next m r t (inl h) = inl (inl h)
+seen_next m r t (inr h) = elim (cases_lt (first_rule t) r) [ inl lt ↦ inl (inr (h.0, lt)) | inr ge ↦ inr (h.0, omega (arith, h.1)) ]
+
+-- no left half is shorter than the first split
+none_shorter : (len first m : ℕ) → 1 ≤ len → first ≡ (if len == 1 then 0 else 1) → m < first → (1 < len → 0 < m) → ⊥
+none_shorter len first m some e less more = grind (arith, nat_tests)
 
 -- none of the derivations that have been seen is as cheap as the least
 abbrev pub Missed : {S : Type 0} → Ops S → Weights S → List Rule → Pairs → ℕ → ℕ → ℕ → S → ℕ → ℕ → Type 0
@@ -25,18 +37,18 @@ module _ {S : Type 0} {o : Ops S} (laws : Laws o) (W : Weights S) (rules : List 
   missed_first first some is u d (inl h) cheap = absurd (none_shorter len first (split u) some is h (derives_split rules shown part before len u d).1)
   missed_first first some is u d (inr h) cheap = absurd (omega (arith, h.1))
 
-  missed_next : (m r : ℕ) → Missed o W rules shown part before len least m r → ((u : Tree) → DerivesBy rules shown part before len m r u → o.le (weight o W before u) least ≡ true → ⊥) → Missed o W rules shown part before len least m (r + 1)
+  missed_next : (m r : ℕ) → Missed o W rules shown part before len least m r → ((u : Tree) → DerivesBySplit rules shown part before len m r u → o.le (weight o W before u) least ≡ true → ⊥) → Missed o W rules shown part before len least m (r + 1)
   missed_next m r missed here u d s cheap = elim (seen_next m r u s) [
     | inl seen ↦ missed u d seen cheap
-    | inr new ↦ here u (d, new.0, new.1) cheap
+    | inr new ↦ here u ((d, new.1), new.0) cheap
   ]
 
   -- the rule is for another part
   pub missed_other : (m r : ℕ) → ((rule_at rules r).part ≡ part → ⊥) → Missed o W rules shown part before len least m r → Missed o W rules shown part before len least m (r + 1)
-  missed_other m r other missed = missed_next m r missed (λ u d cheap. other (rw d.2 at (derives_part rules shown part before len u d.0)))
+  missed_other m r other missed = missed_next m r missed (λ u d cheap. other (rw d.0.1 at (derives_part rules shown part before len u d.0.0)))
 
   -- or it weighs more
-  pub missed_dear : (m r q : ℕ) (c : S) → q ≡ part → LeastOf o (DerivesBy rules shown q before len m r) (weight o W before) c → false ≡ o.le c least → Missed o W rules shown part before len least m r → Missed o W rules shown part before len least m (r + 1)
+  pub missed_dear : (m r q : ℕ) (c : S) → q ≡ part → LeastOf o (DerivesBySplit rules shown q before len m r) (weight o W before) c → false ≡ o.le c least → Missed o W rules shown part before len least m r → Missed o W rules shown part before len least m (r + 1)
   missed_dear m r q c same l dear missed = missed_next m r missed (λ u d cheap. both_ways _ (sym dear) (laws.transitive c _ least (l.below u (rw same d)) cheap))
 
   pub missed_round : (m r : ℕ) → length rules ≤ r → Missed o W rules shown part before len least m r → Missed o W rules shown part before len least (m + 1) 0
@@ -56,20 +68,20 @@ module _ {S : Type 0} {o : Ops S} (laws : Laws o) (W : Weights S) (rules : List 
     | inr (inr gt) ↦ inl gt
   ]
 
-  pub picked_here : (m r q : ℕ) (c : S) → LeastOver o W rules shown part before len least → o.le o.barred least ≡ false → q ≡ part → LeastOf o (DerivesBy rules shown q before len m r) (weight o W before) c → true ≡ o.le c least → Missed o W rules shown part before len least m r → Picked o W rules shown part before len (code_of m r)
+  pub picked_here : (m r q : ℕ) (c : S) → LeastOver o W rules shown part before len least → o.le o.barred least ≡ false → q ≡ part → LeastOf o (DerivesBySplit rules shown q before len m r) (weight o W before) c → true ≡ o.le c least → Missed o W rules shown part before len least m r → Picked o W rules shown part before len (code_of m r)
   picked_here m r q c all goes same l cheap missed = elim l.met [
     | inl e ↦ absurd (both_ways _ goes (rw e at (sym cheap)))
     | inr f ↦
         let t = f.0 in
-        let d : DerivesBy rules shown part before len m r t = rw (← same) f.1 in
+        let d : DerivesBySplit rules shown part before len m r t = rw (← same) f.1 in
         let cheapest : o.le (weight o W before t) least ≡ true = rw f.2 (sym cheap) in (
           t,
           record {
-            derives = d.0;
+            derives = d.0.0;
             least = λ u e. laws.transitive _ least _ cheapest (all.below u e);
-            first = λ u e w. first_here m r missed t d.1 d.2 u e (rw w cheapest);
+            first = λ u e w. first_here m r missed t d.1 d.0.1 u e (rw w cheapest);
           },
-          rw (d.1, d.2) refl,
+          rw (d.1, d.0.1) refl,
         )
   ]
 

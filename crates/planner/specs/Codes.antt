@@ -6,8 +6,12 @@ use Rattle.book.specs.declared.rules.RightSide.TheVariants.{Cut, Pair}
 use Rattle.book.specs.declared.rules.Rule.{Rule}
 use Rattle.sheet.specs.Pairs.{Pairs}
 use Rattle.derivations.specs.Trees.{Tree, cut, pair, width, Makes, Weights}
-use Rattle.derivations.specs.Ties.{first_rule, split, Best, Chosen}
+use Rattle.derivations.specs.Ties.{first_rule, split, DerivesByRule, Best, Chosen}
 use Rattle.planner.specs.Boards.{entry_of}
+
+-- a derivation over the span whose first rule has the index r and whose left half has m places
+abbrev pub DerivesBySplit : List Rule → Pairs → ℕ → ℕ → ℕ → ℕ → ℕ → Tree → Type 0
+DerivesBySplit rules shown part before len m r t = DerivesByRule rules shown part before len r t × (split t ≡ m)
 
 -- the code of a split and a rule; there are at most 128 rules
 abbrev pub code_of : ℕ → ℕ → ℕ

@@ -1,9 +1,11 @@
 // The board of choices: for each part and span of the derivation that the tie rule takes, the first split and rule that attain
 // the least weight.
-ghost use Rattle.std.specs.Prelude.{◌≡◌, ◌+◌, ◌<◌, ◌≤◌, false, length};
-ghost use Rattle.planner.specs.Boards.{board_entries, entry_of};
-ghost use Rattle.planner.specs.Charts.{Inside};
-ghost use Rattle.planner.specs.Codes.{NamesChosen, Picked, SameOutside};
+ghost use Rattle.std.specs.Prelude.{◌≡◌, ◌+◌, ◌*◌, ◌<◌, ◌≤◌, false, length};
+ghost use Rattle.planner.specs.Boards.{board_entries, entry_of, span_number};
+ghost use Rattle.derivations.specs.Least.{LeastOf};
+ghost use Rattle.derivations.specs.Trees.{rule_at, weight};
+ghost use Rattle.planner.specs.Charts.{Filled, Inside};
+ghost use Rattle.planner.specs.Codes.{DerivesBySplit, NamesChosen, Picked, SameOutside};
 
 use crate::boards::{entry, put};
 use crate::prices::Prices;
@@ -14,6 +16,34 @@ use scale::Scale;
 use sheet::Sheet;
 
 impl<H: Sheet, W> Task<'_, H, W> {
+    // The least weight over the span by the rule at the index, with `split` places for its left half; a cut has no halves.
+    fn weight_by_split<S: Scale>(self, board: &[S], span: Span, split: usize, rule: usize) -> S
+    where
+        W: Prices<S>,
+        requires split { split < span.len }
+        requires rule { rule < length self.rules.now }
+        requires room { span_number span.before span.len * self.parts ≤ length board.now }
+        requires filled { Filled S.ops (W.weights self.prices.now self.rules.now) self.rules.now (H.shown self.sheet.now) self.parts board.now (span_number span.before span.len) }
+        ensures { LeastOf S.ops (DerivesBySplit self.entry.rules.now (H.shown self.entry.sheet.now) (rule_at self.entry.rules.now rule).part span.before span.len split rule) (weight S.ops (W.weights self.entry.prices.now self.entry.rules.now) span.before) result }
+    {
+        let side = self.rules[rule].side;
+        match side {
+            RightSide::Cut { stroke } => self.weight_by_cut(span, rule, stroke),
+            RightSide::Pair { left, right } => {
+                if split == 0 {
+                    S::barred()
+                } else {
+                    let price: S = self
+                        .prices
+                        .price_at(self.rules, rule, span.before + 1, span.len);
+                    let a = entry(board, self.parts, span.left(split), left);
+                    let b = entry(board, self.parts, span.right(split), right);
+                    price.join(a.join(b))
+                }
+            }
+        }
+    }
+
     // The code of the lowest split, and of the first rule there, that attain the least weight of the part over the span.
     fn choice<S: Scale>(self, board: &[S], span: Span, part: u8) -> u32
     where
@@ -30,7 +60,9 @@ impl<H: Sheet, W> Task<'_, H, W> {
         'found: for split in span.first_split()..span.len {
             for rule in 0..self.rules.len() {
                 if self.rules[rule].part == part
-                    && self.weight_by(board, span, split, rule).at_most(least)
+                    && self
+                        .weight_by_split(board, span, split, rule)
+                        .at_most(least)
                 {
                     code = (split * 128 + rule) as u32;
                     break 'found;

@@ -1,12 +1,10 @@
 // The outside chart: the least weight around each part over each span of a sheet.
 ghost use Rattle.std.specs.Prelude.{◌≡◌, ◌+◌, ◌-◌, ◌*◌, ◌<◌, ◌≤◌, length, slice_index_or};
-ghost use Rattle.book.specs.declared.rules.RightSide.TheVariants.{Pair};
-ghost use Rattle.derivations.specs.Trees.{Makes, rule_at};
 ghost use Rattle.planner.specs.Boards.{board_entries, spans_before, span_number};
 ghost use Rattle.planner.specs.Charts.{Inside};
-ghost use Rattle.planner.specs.Pushes.{FromRule, FromSpan, FromSplit, Outside, PushedDown};
+ghost use Rattle.planner.specs.Pushes.{FromRule, FromSpan, Outside, PushedDown};
 
-use crate::boards::{entry, lower_to, put};
+use crate::boards::{HalfIndices, entry, entry_at, lower_at, put};
 use crate::prices::Prices;
 use crate::spans::Span;
 use crate::tasks::Task;
@@ -43,13 +41,13 @@ impl<H: Sheet, W> Task<'_, H, W> {
                     .prices
                     .price_at(self.rules, rule, span.before + 1, span.len);
                 let around = entry(outside, self.parts, span, part).join(price);
-                for split in 1..span.len {
-                    let before = entry(inside, self.parts, span.left(split), left);
-                    let after = entry(inside, self.parts, span.right(split), right);
-                    let to_left = around.join(after);
-                    let to_right = around.join(before);
-                    lower_to(outside, self.parts, span.left(split), left, to_left);
-                    lower_to(outside, self.parts, span.right(split), right, to_right);
+                let mut halves = HalfIndices::new(self.parts, span, left, right);
+                for _ in 1..span.len {
+                    let (left_index, right_index) = halves.next();
+                    let to_left = around.join(entry_at(inside, right_index));
+                    let to_right = around.join(entry_at(inside, left_index));
+                    lower_at(outside, left_index, to_left);
+                    lower_at(outside, right_index, to_right);
                 }
             }
         }
@@ -69,7 +67,8 @@ impl<H: Sheet, W> Task<'_, H, W> {
         }
     }
 
-    // What the spans that end at the place push, the long ones first.
+    // What the spans that end at the place push, the long ones first. Not inlined, so that its loops have the registers to themselves.
+    #[inline(never)]
     fn push_column<S: Scale>(self, inside: &[S], outside: &mut [S], last: usize)
     where
         W: Prices<S>,

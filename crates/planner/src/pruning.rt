@@ -1,8 +1,8 @@
 // Pruning: the strokes that no run within a limit has are closed.
-ghost use Rattle.std.specs.Prelude.{◌≡◌, ◌≤◌, ◌↔◌, None, OnErr, IsErr, IsSome, length};
+ghost use Rattle.std.specs.Prelude.{◌≡◌, ◌↔◌, None, OnErr, IsErr, IsSome, length};
 ghost use Rattle.derivations.specs.Runs.{NoneWithin};
 ghost use Rattle.derivations.specs.Trees.{prices};
-ghost use Rattle.planner.specs.Outcomes.{Answered, OnePruned, PrunedTo, passed, prune_refused};
+ghost use Rattle.planner.specs.Outcomes.{Answered, OnePruned, PrunedTo, prune_refused};
 
 use crate::boards::board_entries;
 use crate::prices::RulePrices;

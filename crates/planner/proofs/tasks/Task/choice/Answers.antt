@@ -20,15 +20,15 @@ found-init g c =
 pub loop-rule-init : goal.loop-rule-init
 loop-rule-init g c = c.found.invariant
 
-pub weight_by-requires-clause-room : goal.weight_by-requires-clause-room
-weight_by-requires-clause-room g c =
+pub weight_by_split-requires-clause-room : goal.weight_by_split-requires-clause-room
+weight_by_split-requires-clause-room g c =
     let a = c.args in
     let n = g.H.Sheet.places a.self.sheet.now in
     let less = number_within a.span.before a.span.len n a.span.some c.requires.few in
     omega (arith, c.requires.room, entries_are n a.self.parts, rows_within (span_number a.span.before a.span.len) (spans_before n) a.self.parts (omega (arith, less)))
 
-pub weight_by-requires-clause-filled : goal.weight_by-requires-clause-filled
-weight_by-requires-clause-filled g c =
+pub weight_by_split-requires-clause-filled : goal.weight_by_split-requires-clause-filled
+weight_by_split-requires-clause-filled g c =
     let a = c.args in
     inside_filled g.S.Scale.ops (g.W.Prices.weights a.self.prices.now a.self.rules.now) a.self.rules.now (g.H.Sheet.shown a.self.sheet.now) a.self.parts a.board.now (g.H.Sheet.places a.self.sheet.now) a.span.before a.span.len a.span.some c.requires.few c.requires.inside
 
@@ -39,7 +39,7 @@ loop-rule-preserved g c =
     let W = g.W.Prices.weights a.self.prices.now a.self.rules.now in
     let shown = g.H.Sheet.shown a.self.sheet.now in
     elim c.else-self-rule.branch [
-      | else-self-rule-via-then-self-rule+else-at_most w ↦ missed_dear laws W a.self.rules.now shown a.part a.span.before a.span.len c.entry-least.result c.found.split c.loop-rule.rule (rule_at a.self.rules.now c.loop-rule.rule).part w.weight_by.result w.if-self-rule.true w.weight_by.ensures w.if-at_most.ensures c.loop-rule.invariant
+      | else-self-rule-via-then-self-rule+else-at_most w ↦ missed_dear laws W a.self.rules.now shown a.part a.span.before a.span.len c.entry-least.result c.found.split c.loop-rule.rule (rule_at a.self.rules.now c.loop-rule.rule).part w.weight_by_split.result w.if-self-rule.true w.weight_by_split.ensures w.if-at_most.ensures c.loop-rule.invariant
       | else-self-rule-via-else-self-rule w ↦ missed_other laws W a.self.rules.now shown a.part a.span.before a.span.len c.entry-least.result c.found.split c.loop-rule.rule w.if-self-rule.false c.loop-rule.invariant
     ]
 
@@ -66,4 +66,4 @@ returns-then-at_most g c =
     let W = g.W.Prices.weights a.self.prices.now a.self.rules.now in
     let shown = g.H.Sheet.shown a.self.sheet.now in
     let least = c.entry-least.ensures g.S.Scale.ops.barred in
-    picked_here laws W a.self.rules.now shown a.part a.span.before a.span.len c.entry-least.result c.found.split c.loop-rule.rule (rule_at a.self.rules.now c.loop-rule.rule).part c.weight_by.result (rw least (c.requires.inside a.part a.span.before a.span.len c.requires.part a.span.some c.requires.few)) (rw least goes) c.if-self-rule.true c.weight_by.ensures c.if-at_most.ensures c.loop-rule.invariant
+    picked_here laws W a.self.rules.now shown a.part a.span.before a.span.len c.entry-least.result c.found.split c.loop-rule.rule (rule_at a.self.rules.now c.loop-rule.rule).part c.weight_by_split.result (rw least (c.requires.inside a.part a.span.before a.span.len c.requires.part a.span.some c.requires.few)) (rw least goes) c.if-self-rule.true c.weight_by_split.ensures c.if-at_most.ensures c.loop-rule.invariant

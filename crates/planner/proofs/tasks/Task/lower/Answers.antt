@@ -16,4 +16,4 @@ returns-clause-lowered g c =
     let t = a.self in
     let u = rule_at t.rules.now a.rule in
     rw c.lower_to.ensures
-    (lowered_put g.met.S.Scale.lawful (g.W.Prices.weights t.prices.now t.rules.now) t.rules.now (g.H.Sheet.shown t.sheet.now) t.parts a.board.now a.span.before a.span.len a.split a.rule c.weight_by-weight.result _ (part_within t.parts u.part u.side (t.ranged a.rule blank c.requires.rule).0) c.requires.room c.requires.lowered c.weight_by-weight.ensures refl)
+    (lowered_put g.met.S.Scale.lawful (g.W.Prices.weights t.prices.now t.rules.now) t.rules.now (g.H.Sheet.shown t.sheet.now) t.parts a.board.now a.span.before a.span.len a.rule c.weight_by-weight.result _ (part_within t.parts u.part u.side (t.ranged a.rule blank c.requires.rule).0) c.requires.room c.requires.lowered c.weight_by-weight.ensures refl)
