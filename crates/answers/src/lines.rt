@@ -1,5 +1,4 @@
 // What a line of an event states.
-ghost use Rattle.std.specs.Prelude.{ℕ, List};
 ghost use Rattle.answers.specs.Lines.{BareRead, RestRead, LineRead, OneReading};
 ghost use Rattle.answers.specs.declared.words.Word.TheVariants as word;
 

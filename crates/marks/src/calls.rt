@@ -1,5 +1,5 @@
 // The calls that a marked sheet hands to the sheet below: they touch no mark.
-ghost use Rattle.std.specs.Prelude.{◌≡◌, ℕ, List, OnErr, IsSome, Result, length};
+ghost use Rattle.std.specs.Prelude.{◌≡◌, List, OnErr, IsSome, Result, length};
 ghost use Rattle.refusal.specs.declared.Refusal.{Refusal};
 ghost use Rattle.planner.specs.Outcomes.{prune_refused, quote_refused};
 ghost use Rattle.sheet.specs.Pairs.{Pairs};

@@ -1,5 +1,5 @@
 // One event played on a marked sheet.
-ghost use Rattle.std.specs.Prelude.{◌≡◌, length};
+ghost use Rattle.std.specs.Prelude.{length};
 ghost use Rattle.events.specs.Steps.{Step, lent_all};
 ghost use Rattle.marks.specs.Marks.{SameSheet, state, setting};
 

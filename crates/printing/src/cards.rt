@@ -2,9 +2,7 @@
 ghost use Rattle.std.specs.Prelude.{◌≡◌, OnErr};
 ghost use Rattle.order.specs.Statements.{ShortLimit, InRange};
 ghost use Rattle.sheet.specs.Cards.{card_places, card_shown, CardRest};
-ghost use Rattle.printing.specs.Bounds.{bound_of};
-ghost use Rattle.printing.specs.Refusals.{SheetRefused};
-ghost use Rattle.printing.specs.Cards.{counted, OneCardPrint, CardTold, CardRefused};
+ghost use Rattle.printing.specs.Cards.{OneCardPrint, CardTold, CardRefused};
 ghost use Rattle.printing.specs.Reports.{CardReport};
 ghost use Rattle.printing.specs.Steps.{MadeOr, PruneEnds};
 

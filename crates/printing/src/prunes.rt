@@ -1,9 +1,8 @@
 // The prune of a sheet, on boards from the allocator.
-ghost use Rattle.std.specs.Prelude.{◌≡◌, ◌≤◌, ℕ, List, false, OnErr, Some, length};
+ghost use Rattle.std.specs.Prelude.{◌≡◌, false, OnErr};
 ghost use Rattle.order.specs.Statements.{ShortLimit, InRange};
 ghost use Rattle.derivations.specs.Trees.{prices};
 ghost use Rattle.planner.specs.Outcomes.{PrunedTo};
-ghost use Rattle.printing.specs.Bounds.{bound_of};
 ghost use Rattle.printing.specs.Refusals.{SheetRefused};
 ghost use Rattle.printing.specs.Steps.{MadeOr, PruneEnds};
 

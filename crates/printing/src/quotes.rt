@@ -1,5 +1,5 @@
 // What is printed of an order that is quoted.
-ghost use Rattle.std.specs.Prelude.{◌≡◌, ℕ, List, false, IfOk, IfSome, Some, length};
+ghost use Rattle.std.specs.Prelude.{◌≡◌, false, IfOk, IfSome, length};
 ghost use Rattle.order.specs.Statements.{ShortLimit, InRange};
 ghost use Rattle.derivations.specs.Trees.{prices};
 ghost use Rattle.printing.specs.Bounds.{bound_of};

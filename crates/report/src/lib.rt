@@ -1,7 +1,7 @@
 // What the programs print, made as bytes so that it is proved and compared before it is printed.
 #![tactic(auto)]
 
-ghost use Rattle.std.specs.Prelude.{◌≡◌, ℕ, List, IfOk};
+ghost use Rattle.std.specs.Prelude.{◌≡◌, IfOk};
 ghost use Rattle.report.specs.Reports.{FaultShown, book_summary, BookReport};
 
 use book::{Book, page_of, read};
