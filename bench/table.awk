@@ -1,4 +1,17 @@
 # Prints the table of the times: lines of a case, a program, a call and nanoseconds; the least of each counts.
+function add(group, checked, unchecked) {
+    if (!(group in counts)) group_names[++groups] = group
+    to_checked[group] += log(checked)
+    to_unchecked[group] += log(unchecked)
+    counts[group]++
+}
+
+BEGIN {
+    scale["t"] = "time"
+    scale["g"] = "grade"
+    scale["b"] = "time then grade"
+}
+
 $1 !~ /^random/ {
     key = $1 " " $3
     if (!(key in place)) { place[key] = ++keys; names[keys] = key }
@@ -20,8 +33,8 @@ END {
         unchecked = least[names[i], "unchecked"] / rattle
         printf form, name, words[2], n, rattle, least[names[i], "checked"], least[names[i], "unchecked"], \
             sprintf("%.2f", checked), sprintf("%.2f", unchecked)
-        sums[words[2]] += log(unchecked)
-        counts[words[2]]++
+        add(words[2] ", all", checked, unchecked)
+        if (n != "-") add(words[2] ", " scale[part[4]], checked, unchecked)
         if (n != "-") {
             row = name " " words[2]
             if (!(row in seen)) { seen[row] = 1; rows[++many] = row }
@@ -29,7 +42,14 @@ END {
         }
     }
     print ""
-    for (call in sums) printf "unchecked/Rattle of a %s, the geometric mean over the cases: %.2f\n", call, exp(sums[call] / counts[call])
+    print "the geometric means of the ratios"
+    print ""
+    form = "%-28s %15s %17s\n"
+    printf form, "call and scale", "checked/Rattle", "unchecked/Rattle"
+    for (i = 1; i <= groups; i++) {
+        group = group_names[i]
+        printf form, group, sprintf("%.2f", exp(to_checked[group] / counts[group])), sprintf("%.2f", exp(to_unchecked[group] / counts[group]))
+    }
     print ""
     print "how the cost of the proved planner grows with the places"
     print ""

@@ -1,7 +1,8 @@
 //! Price, prune and quote.
 //!
 //! A span is the places from `first` to `last`, counted from 0. A board has an entry for each span and part: the spans go by their
-//! last place, and of those that end at one place the short ones stand first.
+//! last place, and of those that end at one place the short ones stand first. From one split of a span to the next the left half's
+//! entries stand further on, by one span more each time, and the right half's one span further back.
 use super::books::{Book, Side};
 use super::scales::Scale;
 use super::sheets::Sheet;
@@ -131,15 +132,24 @@ fn fill_inside<S: Scale>(book: &Book, places: usize, open: impl Fn(usize, u8) ->
                     }
                 }
             }
-            for split in first..last {
-                let left_span = start(first, split, parts);
-                let right_span = start(split + 1, last, parts);
+            // in an `if` of its own: so it is quicker than in an `else`
+            if first != last {
                 for rule in book.rules() {
                     if let Side::Pair { left, right } = rule.side {
-                        let left = at(inside, left_span + left as usize);
-                        let right = at(inside, right_span + right as usize);
-                        let cost = S::price(rule.time, rule.grade).join(left.join(right));
-                        lower(inside, span + rule.part as usize, cost);
+                        let mut left_index = start(first, first, parts) + left as usize;
+                        let mut right_index = start(first + 1, last, parts) + right as usize;
+                        let mut step = (first + 2) * parts;
+                        let mut least = S::BARRED;
+                        for _ in first..last {
+                            let cost = at(inside, left_index).join(at(inside, right_index));
+                            if cost < least {
+                                least = cost;
+                            }
+                            left_index += step;
+                            step += parts;
+                            right_index -= parts;
+                        }
+                        lower(inside, span + rule.part as usize, S::price(rule.time, rule.grade).join(least));
                     }
                 }
             }
@@ -156,17 +166,21 @@ fn fill_outside<S: Scale>(book: &Book, places: usize, inside: &[S], outside: &mu
         *at_mut(outside, index) = S::BARRED;
     }
     *at_mut(outside, start(0, places - 1, parts)) = S::FREE;
-    for last in (0..places).rev() {
-        for first in 0..=last {
+    for last in (1..places).rev() {
+        for first in 0..last {
             let span = start(first, last, parts);
             for rule in book.rules() {
                 if let Side::Pair { left, right } = rule.side {
                     let around = at(outside, span + rule.part as usize).join(S::price(rule.time, rule.grade));
-                    for split in first..last {
-                        let left_half = start(first, split, parts) + left as usize;
-                        let right_half = start(split + 1, last, parts) + right as usize;
-                        lower(outside, left_half, around.join(at(inside, right_half)));
-                        lower(outside, right_half, around.join(at(inside, left_half)));
+                    let mut left_index = start(first, first, parts) + left as usize;
+                    let mut right_index = start(first + 1, last, parts) + right as usize;
+                    let mut step = (first + 2) * parts;
+                    for _ in first..last {
+                        lower(outside, left_index, around.join(at(inside, right_index)));
+                        lower(outside, right_index, around.join(at(inside, left_index)));
+                        left_index += step;
+                        step += parts;
+                        right_index -= parts;
                     }
                 }
             }

@@ -87,7 +87,9 @@ impl Scale for TimeGrade {
 
     #[inline]
     fn join(self, other: TimeGrade) -> TimeGrade {
-        TimeGrade::new(self.time.saturating_add(other.time), self.grade.max(other.grade))
+        let time = self.time.saturating_add(other.time);
+        let grade = self.grade.max(other.grade);
+        TimeGrade { time, grade: if time < u32::MAX { grade } else { u8::MAX } }
     }
 
     #[inline]
