@@ -79,7 +79,7 @@ pub(crate) fn lower_to<S: Scale>(board: &mut [S], parts: u8, span: Span, part: u
 
 // The indices of the entries of two parts over the halves of a span, from one split to the next: the left half's entry stands
 // further on at each split, by one row more than at the split before, and the right half's one row further back. A row is the entries
-// of a span. What the indices stand for is there for the contracts: no code reads it.
+// of a span. The span, the two parts and the split are there for the contracts: no code goes by them.
 #[derive(Drop)]
 pub(crate) struct HalfIndices {
     parts: u8,

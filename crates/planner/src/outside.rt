@@ -67,7 +67,8 @@ impl<H: Sheet, W> Task<'_, H, W> {
         }
     }
 
-    // What the spans that end at the place push, the long ones first. Not inlined, so that its loops have the registers to themselves.
+    // What the spans that end at the place push, the long ones first. Not inlined, so that its loops have the registers to
+    // themselves.
     #[inline(never)]
     fn push_column<S: Scale>(self, inside: &[S], outside: &mut [S], last: usize)
     where
