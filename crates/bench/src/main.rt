@@ -35,7 +35,7 @@ fn main(rt: HostRuntime) -> anyhow::Result<()> {
     let Some(rounds) = rounds_of(&rounds) else {
         bail!("no number of rounds")
     };
-    let Ok(book) = book::read(heap, &book) else {
+    let Ok(book) = book::read(&book) else {
         bail!("the book is refused")
     };
     let mut times = Boards::<Time>::new(heap)?;

@@ -1,4 +1,3 @@
-pub mod Ranging
 pub mod Spelling
 pub mod Standing
 pub mod Putting

@@ -1,5 +1,5 @@
 -- The lines of a book put on a page one after another; the whole text fits. Assumes nothing.
-use Rattle.std.proofs.Common.{◌≡◌, ℕ, ◌+◌, ◌*◌, ◌<◌, ◌≤◌, true, List, [], ◌∷◌, ◌++◌, length, get_or, take, vec_items, decimal, sym, refl, ap, ◌∙◌, subst, append_assoc, append-nil, arith, length-append}
+use Rattle.std.proofs.Common.{◌≡◌, ℕ, ◌+◌, ◌*◌, ◌<◌, ◌≤◌, true, List, [], ◌∷◌, ◌++◌, length, get_or, take, decimal, sym, refl, ap, ◌∙◌, subst, append_assoc, append-nil, arith, length-append}
 use Rattle.std.specs.List.{flat_map, AllByRecursion}
 use Rattle.std.proofs.lemmas.Bool.Decides.{nat_tests}
 use Rattle.std.proofs.lemmas.List.{length_push, take_more, take_all, flat_map_more}
@@ -16,16 +16,6 @@ use Rattle.book.specs.declared.books.Book.{Book}
 use Rattle.book.specs.Ranges.{InRange, lettered, Lawful}
 use Rattle.book.specs.Statements.{parts, rule, written_rule, rule_text, ShortSide, Spelled}
 use Rattle.book.specs.Writing.{ended_line, written, book_text}
-
-pub lawful_of : (b : Book) → Lawful b.parts (vec_items b.rules)
-lawful_of b = record {
-  some_parts = b.some_parts;
-  few_parts = b.few_parts;
-  some_rules = b.some_rules;
-  few_rules = b.few_rules;
-  ranged = b.ranged;
-  lettered_strokes = b.lettered;
-}
 
 -- a rule of a book is spelled with at most six digits and a capital letter
 side_short : (k part : ℕ) (s : RightSide) (t g : ℕ) → k ≤ 32 → InRange k (record { part = part; side = s; time = t; grade = g }) → lettered s ≡ true → Short part × ShortSide s
@@ -114,6 +104,6 @@ filled_more {k} {rules} {i} {p} {q} d f h a = record {
 filled_all : {k : ℕ} {rules : List Rule} {i : ℕ} {p : Page} → Lawful k rules → Filled k rules i p → length rules ≤ i → page_text p ≡ written k rules
 filled_all {k} {rules} {i} w f h = f.text ∙ ap (λ l. take 8192 (written k l)) (take_all i rules h) ∙ take_all 8192 (written k rules) (written_short k rules w)
 
-pub filled_at : (b : Book) {rules : List Rule} {i : ℕ} {p : Page} → Filled b.parts rules i p → rules ≡ vec_items b.rules → length rules ≤ i → page_text p ≡ book_text b
-filled_at b {rules} {i} {p} f e h =
-    filled_all (lawful_of b) (subst (λ l. Filled b.parts l i p) e f) (subst (λ l. length l ≤ i) e h)
+pub filled_at : (b : Book) {rules : List Rule} {i : ℕ} {p : Page} → Lawful b.parts b.rules → Filled b.parts rules i p → rules ≡ b.rules → length rules ≤ i → page_text p ≡ book_text b
+filled_at b {rules} {i} {p} w f e h =
+    filled_all w (subst (λ l. Filled b.parts l i p) e f) (subst (λ l. length l ≤ i) e h)

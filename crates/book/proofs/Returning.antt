@@ -1,7 +1,7 @@
 -- What is written reads back the same: the text of a book tells that book. Assumes nothing.
-use Rattle.std.proofs.Common.{◌≡◌, ℕ, ◌≤◌, List, [], ◌∷◌, ◌++◌, map, length, drop, Some, Ok, Err, vec_items, decimal, sym, refl, ap, ◌∙◌, subst, inr, append_assoc, arith}
+use Rattle.std.proofs.Common.{◌≡◌, ℕ, List, [], ◌∷◌, ◌++◌, map, take, drop, Some, Ok, decimal, sym, refl, ap, ◌∙◌, subst, append_assoc, arith}
+use Rattle.std.proofs.Math.Seq.{take-append_seam}
 use Rattle.std.specs.List.{flat_map, AllByRecursion}
-use Rattle.refusal.specs.declared.Fault.{Fault}
 use Rattle.text.specs.Fields.{fielded, Short, Lacks}
 use Rattle.text.specs.Lines.{Starts}
 use Rattle.text.specs.Reading.{Ending, stated, Ends}
@@ -14,10 +14,10 @@ use Rattle.book.specs.declared.books.Book.{Book}
 use Rattle.book.specs.Ranges.{Lawful}
 use Rattle.book.specs.Statements.{parts, rule, written_rule, rule_text, ShortSide, Stated, book_form}
 use Rattle.text.specs.Reading.{Listed}
-use Rattle.book.specs.Texts.{without_notes, Tells, Agrees, Told}
+use Rattle.book.specs.Texts.{without_notes, Tells, Agrees}
 use Rattle.book.specs.Writing.{ended_line, written, book_text, Wrote, ReadBack}
 use Rattle.book.proofs.Telling.{tells_accepted}
-use Rattle.book.proofs.Putting.{Fits, all_fit, written_short, lawful_of}
+use Rattle.book.proofs.Putting.{Fits, all_fit, written_short}
 
 lacks : (n : ℕ) → Short n → Lacks 10 (decimal n)
 lacks n h = decimal_lacks 10 n (omega arith) h
@@ -40,7 +40,7 @@ no_notes : (rules : List Rule) → without_notes (map rule rules) ≡ map rule r
 no_notes [] = refl
 no_notes (u ∷ us) = ap (λ l. rule u ∷ l) (no_notes us)
 
-pub written_tells : (k : ℕ) (rules : List Rule) → Lawful k rules → Tells (written k rules) k rules
+pub written_tells : (k : ℕ) (rules : List Rule) → Lawful k rules → Tells (written k rules) (record { parts = k; rules = rules })
 unfolding written
 written_tells k rules h =
     let few : Short k = omega (arith, h.few_parts) in
@@ -52,19 +52,22 @@ written_tells k rules h =
       lawful = h;
     }
 
-module _ (b : Book) (text : List ℕ) (same : text ≡ book_text b) where
-  tells : Tells text b.parts (vec_items b.rules)
-  tells = subst (λ t. Tells t b.parts (vec_items b.rules)) (sym same) (written_tells _ _ (lawful_of b))
+-- what a call wrote is the text
+pub front : (text before after : List ℕ) (n : ℕ) → Wrote text before (Ok n) after → take n after ≡ text
+front text before after n w = rw (w.1, w.0) (take-append_seam text _)
 
-  -- the text is read as the book, and is written
-  pub again_same : (c : Book) (n : ℕ) (before after : List ℕ) → length (book_text b) ≤ length before → ((e : Ending Stated) → Ends book_form text e → Agrees text e (Ok c)) → Wrote (book_text b) before (Ok n) after → ReadBack b before (Ok c) after
-  again_same c n before after room only w =
-      let sum = only (stated (record { parts = Some b.parts; rules = vec_items b.rules })) (tells_accepted _ _ _ tells) in
+module _ (b : Book) (tells : Tells (book_text b) b) where
+  -- what the text is read as, if it is read
+  pub read_same : (c : Book) → ((e : Ending Stated) → Ends book_form (book_text b) e → Agrees (book_text b) e (Ok c)) → c ≡ b
+  read_same c only =
+      let sum = only (stated (record { parts = Some b.parts; rules = b.rules })) (tells_accepted _ b tells) in
       let e = ap (λ (d : Stated). d.parts) sum in
       let k : c.parts ≡ b.parts = cc in
-      let us : vec_items c.rules ≡ vec_items b.rules = sym (ap (λ (d : Stated). d.rules) sum) in
-      let told = subst (λ n. Tells (book_text b) n (vec_items c.rules)) (sym k) (subst (λ rs. Tells (book_text b) b.parts rs) (sym us) (written_tells _ _ (lawful_of b))) in
-      (room, told, k, us, w.1 ∙ ap (λ m. book_text b ++ drop m before) w.0)
+      let us : c.rules ≡ b.rules = sym (ap (λ (d : Stated). d.rules) sum) in
+      (λ i. record { parts = k i; rules = us i })
 
-  pub again_none : (f : Fault) (before : List ℕ) → length (book_text b) ≤ length before → Told text (Err f) → ReadBack b before (Err f.refusal) before
-  again_none f before room told = (inr (sym (ap (λ (x : Fault). x.refusal) (told _ _ tells)), room), refl)
+  -- it is written, and read again
+  pub again_same : (c : Book) (n : ℕ) (before after : List ℕ) → Wrote (book_text b) before (Ok n) after → ((e : Ending Stated) → Ends book_form (take n after) e → Agrees (take n after) e (Ok c)) → ReadBack b before (Ok c) after
+  again_same c n before after w only =
+      let only' : (e : Ending Stated) → Ends book_form (book_text b) e → Agrees (book_text b) e (Ok c) = subst (λ t. (e : Ending Stated) → Ends book_form t e → Agrees t e (Ok c)) (front (book_text b) before after n w) only in
+      (read_same c only', tells, w.1 ∙ ap (λ m. book_text b ++ drop m before) w.0)

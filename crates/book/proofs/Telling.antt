@@ -1,5 +1,5 @@
 -- What is read is what the text tells: the two ways to say what a book's text means are one. Assumes nothing.
-use Rattle.std.proofs.Common.{◌≡◌, ℕ, ◌+◌, ◌≤◌, List, [], ◌∷◌, ◌++◌, map, length, Some, Ok, Err, vec_items, Result, sym, refl, ap, ◌∙◌, subst, append_assoc, append-nil, arith}
+use Rattle.std.proofs.Common.{◌≡◌, ℕ, ◌+◌, ◌≤◌, List, [], ◌∷◌, ◌++◌, map, length, Some, Ok, Err, Result, sym, refl, ap, ◌∙◌, subst, append_assoc, append-nil, arith}
 use Rattle.std.specs.List.{AllByRecursion}
 use Rattle.std.proofs.lemmas.List.{length_push}
 use Rattle.std.proofs.ByRecursion.{All-from_get_or}
@@ -13,7 +13,7 @@ use Rattle.book.specs.declared.rules.Rule.{Rule}
 use Rattle.book.specs.declared.books.Book.{Book}
 use Rattle.book.specs.Ranges.{InRange, Lawful}
 use Rattle.book.specs.Statements.{Said, parts, rule, note, Stated, book_form}
-use Rattle.book.specs.Texts.{without_notes, Tells, stated_in, IsRule, Outcome, Told}
+use Rattle.book.specs.Texts.{without_notes, Tells, stated_in, Outcome, Told}
 use Rattle.book.proofs.Spelling.{book_plain}
 use Rattle.book.proofs.Standing.{Sound, reads_sound}
 
@@ -75,7 +75,7 @@ parts_told k (parts n ∷ ls) rules bs w h e =
     )
 parts_told k (rule u ∷ ls) rules bs w h e = let z : ◌≡◌ {A = ℕ} 0 1 = cc in absurd (omega arith)
 
-pub accepted_tells : (text : List ℕ) (k : ℕ) (rules : List Rule) → Accepted book_form text (record { parts = Some k; rules = rules }) → Tells text k rules
+pub accepted_tells : (text : List ℕ) (k : ℕ) (rules : List Rule) → Accepted book_form text (record { parts = Some k; rules = rules }) → Tells text (record { parts = k; rules = rules })
 accepted_tells text k rules a =
     let s : Sound (Some k) rules = reads_sound a.lines book_form.blank text (record { parts = Some k; rules = rules }) [] refl a.reached.reads in
     record {
@@ -86,14 +86,14 @@ accepted_tells text k rules a =
       lawful = record { some_parts = s.0; few_parts = s.1; some_rules = a.passed.0; few_rules = s.2; ranged = s.3; lettered_strokes = s.4 };
     }
 
-pub tells_accepted : (text : List ℕ) (k : ℕ) (rules : List Rule) → Tells text k rules → Accepted book_form text (record { parts = Some k; rules = rules })
-tells_accepted text k rules t = record {
+pub tells_accepted : (text : List ℕ) (b : Book) → Tells text b → Accepted book_form text (stated_in b)
+tells_accepted text b t = record {
   lines = t.lines;
-  reached = record { short = t.short; reads = parts_told k t.lines rules text t.lawful t.listed t.told };
+  reached = record { short = t.short; reads = parts_told b.parts t.lines b.rules text t.lawful t.listed t.told };
   passed = (t.lawful.some_rules, tt);
 }
 
 pub told_by : (text : List ℕ) (r : Result Book Fault) → Outcome text r → Told text r
-told_by text (Ok b) o = accepted_tells text b.parts (vec_items b.rules) o
-told_by text (Err f) o = λ k rules t.
-    (only_ending book_form book_plain stated_in IsRule source.Book text (Err f) o (stated (record { parts = Some k; rules = rules })) (tells_accepted text k rules t)).0
+told_by text (Ok b) o = accepted_tells text b.parts b.rules o
+told_by text (Err f) o = λ b t.
+    only_ending book_form book_plain stated_in source.Book text (Err f) o (stated (stated_in b)) (tells_accepted text b t)

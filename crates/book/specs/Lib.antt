@@ -1,4 +1,5 @@
 pub mod Ranges
+pub mod BookSaid
 pub mod Statements
 pub mod Fields
 pub mod Lines

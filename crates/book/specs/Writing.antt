@@ -1,8 +1,8 @@
 -- A book as it is written, and written again. Assumes nothing.
-use Rattle.std.specs.Prelude.{◌≡◌, ℕ, ◌<◌, ◌≤◌, ◌⊎◌, List, [], ◌∷◌, ◌++◌, length, drop, Ok, Err, vec_items, Result}
+use Rattle.std.specs.Prelude.{◌≡◌, ℕ, ◌<◌, List, [], ◌∷◌, ◌++◌, length, drop, Ok, Err, Result}
 use Rattle.std.specs.List.{flat_map}
 use Rattle.refusal.specs.declared.Refusal.{Refusal}
-use Rattle.refusal.specs.declared.Refusal.TheVariants.{LentTooShort, OutOfMemory}
+use Rattle.refusal.specs.declared.Refusal.TheVariants.{LentTooShort}
 use Rattle.book.specs.declared.rules.Rule.{Rule}
 use Rattle.book.specs.declared.books.Book.{Book}
 use Rattle.book.specs.Statements.{Said, parts, rule, line_text}
@@ -18,15 +18,15 @@ written k rules = ended_line (parts k) ++ flat_map (λ u. ended_line (rule u)) r
 
 -- the book as it is written
 abbrev pub book_text : Book → List ℕ
-book_text b = written b.parts (vec_items b.rules)
+book_text b = written b.parts b.rules
 
 -- the text is at the front of after, and the rest of before stays; or before is too short for it, and stays as it is
 abbrev pub Wrote : List ℕ → List ℕ → Result ℕ Refusal → List ℕ → Type 0
 Wrote text before (Ok n) after = (n ≡ length text) × (after ≡ text ++ drop n before)
 Wrote text before (Err r) after = (LentTooShort ≡ r) × (length before < length text) × (after ≡ before)
 
--- before has room for the text of b, which tells the book c, b again, and stands at the front of after; or before is too short
--- for the text, or has room and there was no memory for the book, and before stays as it is
+-- what is read again is b, whose text tells it and stands at the front of after; or before is too short for the text, and stays
+-- as it is
 abbrev pub ReadBack : Book → List ℕ → Result Book Refusal → List ℕ → Type 0
-ReadBack b before (Ok c) after = (length (book_text b) ≤ length before) × Tells (book_text b) c.parts (vec_items c.rules) × (c.parts ≡ b.parts) × (vec_items c.rules ≡ vec_items b.rules) × (after ≡ book_text b ++ drop (length (book_text b)) before)
-ReadBack b before (Err r) after = (((LentTooShort ≡ r) × (length before < length (book_text b))) ⊎ ((OutOfMemory ≡ r) × (length (book_text b) ≤ length before))) × (after ≡ before)
+ReadBack b before (Ok c) after = (c ≡ b) × Tells (book_text b) b × (after ≡ book_text b ++ drop (length (book_text b)) before)
+ReadBack b before (Err r) after = (LentTooShort ≡ r) × (length before < length (book_text b)) × (after ≡ before)

@@ -1,32 +1,41 @@
 // A book, whose numbers are always in range.
-ghost use Rattle.std.specs.Prelude.{◌≡◌, ◌≤◌, true, length, All};
-ghost use Rattle.book.specs.Ranges.{InRange, lettered};
+ghost use Rattle.std.specs.Prelude.{◌≡◌};
+ghost use Rattle.book.specs.Ranges.{Lawful};
 
 use crate::rules::Rule;
+use arrayvec::ArrayVec;
+use std::marker::Model;
 
 // How many parts there are, numbered from 0, and the rules, numbered from 1 in the order of their lines.
 #[derive(Drop)]
 pub struct Book {
     pub(crate) parts: u8,
-    pub(crate) rules: Vec<Rule>,
-    ghost some_parts: { 1 ≤ parts },
-    ghost few_parts: { parts ≤ 32 },
-    ghost some_rules: { 1 ≤ length rules.items },
-    ghost few_rules: { length rules.items ≤ 128 },
-    ghost ranged: { All (InRange parts) rules.items },
-    ghost lettered: { All (λ u. lettered u.side ≡ true) rules.items },
+    pub(crate) rules: ArrayVec<Rule, 128>,
+}
+
+impl Model for Book {
+    ghost use Rattle.book.specs.BookSaid.{BookSaid};
+    ghost use Rattle.book.specs.Ranges.{Lawful};
+
+    ghost Value = { BookSaid };
+
+    ghost view = { λ b. record { parts = b.parts; rules = b.rules.items } };
+
+    ghost invariant = { λ b. Lawful b.parts b.rules.items };
 }
 
 impl Book {
     pub fn parts(&self) -> u8
-        ensures { result ≡ self.now.parts }
+        ensures parts { result ≡ self.now.parts }
+        ensures lawful { Lawful self.now.parts self.now.rules }
     {
         self.parts
     }
 
     // The rules in the order of their numbers: rule number 1 stands at index 0.
     pub fn rules(&self) -> &[Rule]
-        ensures { result.now ≡ self.now.rules.items }
+        ensures rules { result.now ≡ self.now.rules }
+        ensures lawful { Lawful self.now.parts self.now.rules }
     {
         self.rules.as_slice()
     }

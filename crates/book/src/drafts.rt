@@ -4,21 +4,21 @@ ghost use Rattle.std.specs.Option.{ForSome};
 ghost use Rattle.refusal.specs.declared.Refusal.TheVariants.{PartsMisplaced};
 ghost use Rattle.book.specs.Ranges.{lettered, InRange};
 ghost use Rattle.book.specs.Statements.{Said, parts, rule as rule_said, RangedIn, Stated, book_form};
-ghost use Rattle.book.specs.Texts.{stated_in, IsRule};
+ghost use Rattle.book.specs.Texts.{stated_in};
 ghost use Rattle.book.specs.Lines.{said_by};
 
 use crate::books::Book;
 use crate::lines::{Line, read_line};
 use crate::rules::Rule;
+use arrayvec::ArrayVec;
 use refusal::Refusal;
-use std::alloc::Global;
 use text::Draft;
 
 // What the lines so far state. Where no number of parts stood there is no rule, and what there is keeps to its ranges.
 #[derive(Drop)]
 pub(crate) struct BookDraft {
     parts: Option<u8>,
-    rules: Vec<Rule>,
+    rules: ArrayVec<Rule, 128>,
     ghost no_rule_before: { parts ≡ None → length rules.items ≡ 0 },
     ghost parts_in_range: { ForSome parts (λ k. (1 ≤ k) × (k ≤ 32)) },
     ghost few_rules: { length rules.items ≤ 128 },
@@ -30,12 +30,12 @@ impl BookDraft {
     ghost use Rattle.book.specs.Drafts.{stated_by, Adds};
 
     // Nothing yet.
-    pub(crate) fn new(heap: Global) -> BookDraft
+    pub(crate) fn new() -> BookDraft
         ensures { stated_by result ≡ book_form.blank }
     {
         BookDraft {
             parts: None,
-            rules: Vec::new(heap),
+            rules: ArrayVec::new(),
         }
     }
 
@@ -66,10 +66,10 @@ impl BookDraft {
         requires lettered { lettered rule.side ≡ true }
         ensures { Adds self.old (rule_said rule) result self.new }
     {
-        if self.rules.len() >= 128 {
+        if self.rules.is_full() {
             return Err(Refusal::TooManyRules);
         }
-        self.rules.push(rule)?;
+        self.rules.push(rule);
         Ok(())
     }
 
@@ -100,8 +100,6 @@ impl Draft for BookDraft {
     ghost stated = { stated_by };
 
     ghost whole = { stated_in };
-
-    ghost wants_memory = { IsRule };
 
     fn take(&mut self, line: &[u8]) -> Result<(), Refusal> {
         self.add(read_line(line)?)

@@ -6,13 +6,12 @@ ghost use Rattle.book.specs.Texts.{Outcome, Agrees, Told};
 use crate::books::Book;
 use crate::drafts::BookDraft;
 use refusal::{Fault, Source};
-use std::alloc::Global;
 
 // The book that a text states, or the first refusal in the order of the checks, with its line.
-pub fn read(heap: Global, text: &[u8]) -> Result<Book, Fault>
+pub fn read(text: &[u8]) -> Result<Book, Fault>
     ensures outcome { Outcome text.now result }
     ensures only { (e : Ending Stated) → Ends book_form text.now e → Agrees text.now e result }
     ensures told { Told text.now result }
 {
-    text::read(BookDraft::new(heap), Source::Book, text)
+    text::read(BookDraft::new(), Source::Book, text)
 }

@@ -16,3 +16,16 @@ pub struct Rule {
     pub time: u32,
     pub grade: u8,
 }
+
+// What an empty place of a book's memory holds, and no book shows: a rule with nothing in it. By hand, since a right side has no
+// default of its own.
+impl Default for Rule {
+    fn default() -> Rule {
+        Rule {
+            part: 0,
+            side: RightSide::Cut { stroke: b'A' },
+            time: 0,
+            grade: 0,
+        }
+    }
+}

@@ -2,13 +2,13 @@
 ghost use Rattle.std.specs.Prelude.{◌≡◌};
 ghost use Rattle.text.specs.Pages.{page_text, Appended};
 ghost use Rattle.book.specs.Statements.{rule as rule_said};
+ghost use Rattle.book.specs.Texts.{Tells};
 ghost use Rattle.book.specs.Writing.{ended_line, book_text, Wrote, ReadBack};
 
 use crate::books::Book;
 use crate::reading::read;
 use crate::rules::{RightSide, Rule};
 use refusal::Refusal;
-use std::alloc::Global;
 use text::Page;
 
 // On a page, by calls and not by `write!` of a `Display`: putting takes no heap and cannot fail, so neither can `page_of`.
@@ -40,11 +40,12 @@ fn put_rule(page: &mut Page, rule: Rule)
 
 // The book's text: the line of the number of parts, and the lines of the rules in the order of their numbers.
 pub fn page_of(book: &Book) -> Page
-    ensures { page_text result ≡ book_text book.now }
+    ensures text { page_text result ≡ book_text book.now }
+    ensures tells { Tells (book_text book.now) book.now }
 {
     let mut page = Page::new();
     page.push(b'k');
-    page.field(book.parts as u32);
+    page.field(book.parts() as u32);
     page.push(b'\n');
     for rule in book.rules() {
         put_rule(&mut page, *rule);
@@ -54,7 +55,8 @@ pub fn page_of(book: &Book) -> Page
 
 // Writes the book's text at the front of `out`, and answers how long it is.
 pub fn write(book: &Book, out: &mut [u8]) -> Result<usize, Refusal>
-    ensures { Wrote (book_text book.now) out.old result out.new }
+    ensures text { Wrote (book_text book.now) out.old result out.new }
+    ensures tells { Tells (book_text book.now) book.now }
 {
     let page = page_of(book);
     let text = page.text();
@@ -66,16 +68,11 @@ pub fn write(book: &Book, out: &mut [u8]) -> Result<usize, Refusal>
     Ok(n)
 }
 
-// Reads the book's text again, the same book, and writes it at the front of `out`. An output that is too short is refused
-// before the text is read; a refusal leaves `out` as it was.
-pub fn read_back(heap: Global, book: &Book, out: &mut [u8]) -> Result<Book, Refusal>
+// Writes the book's text at the front of `out`, and reads it again there: the same book. An output that is too short is refused,
+// and stays as it was.
+pub fn read_back(book: &Book, out: &mut [u8]) -> Result<Book, Refusal>
     ensures { ReadBack book.now out.old result out.new }
 {
-    let page = page_of(book);
-    if page.text().len() > out.len() {
-        return Err(Refusal::LentTooShort);
-    }
-    let again = read(heap, page.text())?;
-    write(book, out)?;
-    Ok(again)
+    let n = write(book, out)?;
+    Ok(read(&out[..n])?)
 }

@@ -10,7 +10,6 @@ mod writing;
 
 use book::{RightSide, Rule, read};
 use refusal::Layer;
-use std::alloc::Global;
 use std::process::Abort;
 use std::test::Fail;
 
@@ -61,13 +60,12 @@ fn jig_rules() -> [Rule; 7] {
 // The text is refused with that number and layer, at that line.
 fn refused(
     rt: &impl Abort,
-    heap: Global,
     text: &[u8],
     number: u8,
     layer: Layer,
     line: usize,
 ) -> Result<(), Fail> {
-    match read(heap, text) {
+    match read(text) {
         Ok(_) => panic!(rt; "the book is accepted: {text:?}"),
         Err(fault) => {
             assert_eq!(rt; fault.number(), number, "the text {text:?}");
@@ -81,20 +79,19 @@ fn refused(
 // Each text is refused with that number and layer, at the line beside it.
 fn all_refused(
     rt: &impl Abort,
-    heap: Global,
     number: u8,
     layer: Layer,
     cases: &[(&[u8], usize)],
 ) -> Result<(), Fail> {
     for (text, line) in cases {
-        refused(rt, heap, text, number, layer, *line)?;
+        refused(rt, text, number, layer, *line)?;
     }
     Ok(())
 }
 
 // Each text is the text of a book.
-fn all_read(rt: &impl Abort, heap: Global, cases: &[&[u8]]) {
+fn all_read(rt: &impl Abort, cases: &[&[u8]]) {
     for text in cases {
-        assert!(rt; read(heap, text).is_ok(), "the text {text:?}");
+        assert!(rt; read(text).is_ok(), "the text {text:?}");
     }
 }

@@ -6,6 +6,7 @@ use Rattle.std.proofs.lemmas.Nat.{mul-le}
 use Rattle.scale.specs.Times.{time_ops}
 use Rattle.refusal.specs.declared.Fault.{Fault}
 use Rattle.book.specs.declared.books.Book.{Book}
+use Rattle.book.specs.Texts.{Told}
 use Rattle.planner.specs.Boards.{board_entries, spans_before}
 use Rattle.planner.specs.Outcomes.{priced}
 use Rattle.planner.proofs.Indexing.{entries_are, spans_mono}
@@ -19,6 +20,6 @@ same_refusal k run parts (inl more) = grind (arith, nat_tests)
 same_refusal k run parts (inr few) = let e = room (length run) k few parts in grind (arith, nat_tests)
 
 -- so it is never refused for want of room
-pub roomy : (read : Result Book Fault) (run : List ℕ) → answered read run 4352 ≡ entry_answer read run
-roomy (Ok b) run = ap (λ r. packed (priced time_ops b.rules.items r run)) (same_refusal b.parts run b.few_parts (cases_lt 16 (length run)))
-roomy (Err f) run = refl
+pub roomy : (text : List ℕ) (read : Result Book Fault) (run : List ℕ) → Told text read → answered read run 4352 ≡ entry_answer read run
+roomy text (Ok b) run told = ap (λ r. packed (priced time_ops b.rules r run)) (same_refusal b.parts run told.lawful.few_parts (cases_lt 16 (length run)))
+roomy text (Err f) run told = refl

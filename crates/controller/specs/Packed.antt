@@ -1,5 +1,5 @@
 -- What the controller's entry answers: a time or a refusal, in one number. Assumes nothing.
-use Rattle.std.specs.Prelude.{◌≡◌, ℕ, ◌*◌, not, Option, Some, None, Result, Ok, Err, List, length, nat_lt, vec_items, if◌then◌else◌, ◌==◌}
+use Rattle.std.specs.Prelude.{◌≡◌, ℕ, ◌*◌, not, Option, Some, None, Result, Ok, Err, List, length, nat_lt, if◌then◌else◌, ◌==◌}
 use Rattle.std.specs.List.{list_all}
 use Rattle.scale.specs.declared.prices.times.Time.{Time}
 use Rattle.scale.specs.Times.{time_ops}
@@ -24,7 +24,7 @@ entry_refused k run room = if nat_lt 16 (length run) then Some TooManyPlaces els
 -- what is answered of a book as it was read: the refusal of its text, or what the run costs by it, or why that is refused
 abbrev pub answered : Result Book Fault → List ℕ → ℕ → ℕ
 answered (Err f) run room = packed (Err f.refusal)
-answered (Ok b) run room = packed (priced time_ops (vec_items b.rules) (entry_refused b.parts run room) run)
+answered (Ok b) run room = packed (priced time_ops b.rules (entry_refused b.parts run room) run)
 
 -- the same checks where the board has room
 abbrev pub run_refused : List ℕ → Option Refusal
@@ -34,7 +34,7 @@ run_refused run =
 -- what is answered then
 abbrev pub entry_answer : Result Book Fault → List ℕ → ℕ
 entry_answer (Err f) run = packed (Err f.refusal)
-entry_answer (Ok b) run = packed (priced time_ops (vec_items b.rules) (run_refused run) run)
+entry_answer (Ok b) run = packed (priced time_ops b.rules (run_refused run) run)
 
 -- the answer is of the book that the text tells, or of the refusal of the text, as the reader finds it
 abbrev pub EntryAnswers : List ℕ → List ℕ → ℕ → Type 0

@@ -8,20 +8,18 @@ use book::Book;
 use planner::price;
 use refusal::{Fault, Refusal};
 use scale::Time;
-use std::alloc::Global;
 
 #[cfg(test)]
 mod tests;
 
 // The time in tenths of a second, or the number of the refusal times 2 to the 32nd. The book's text is checked first, then that
-// the run has no 17th place, and then as for any price. The allocator takes no bytes, so a caller in C passes nothing for it. The
-// board has entries for 16 places and 32 parts.
+// the run has no 17th place, and then as for any price. The board has entries for 16 places and 32 parts.
 #[unsafe(no_mangle)]
-pub extern "C" fn waichuro_price(heap: Global, book: &[u8], run: &[u8]) -> u64
+pub extern "C" fn waichuro_price(book: &[u8], run: &[u8]) -> u64
     ensures { EntryAnswers book.now run.now result }
 {
     let mut inside = [Time::new(0); 4352];
-    answer(book::read(heap, book), run, &mut inside)
+    answer(book::read(book), run, &mut inside)
 }
 
 // The same of a book as it was read, on a board that is lent. What the board holds after a time or refusal 10 is free; any other

@@ -11,31 +11,28 @@ const fn refused(number: u64) -> u64 {
 
 #[test]
 fn the_times_of_the_jig(rt: HostRuntime) {
-    assert_eq!(rt; waichuro_price(rt.alloc(), BOOK, b"S"), 12);
-    assert_eq!(rt; waichuro_price(rt.alloc(), BOOK, b"JSK"), 45);
-    assert_eq!(rt; waichuro_price(rt.alloc(), BOOK, b"JMK"), 63);
-    assert_eq!(rt; waichuro_price(rt.alloc(), BOOK, b"SSSSSSSSSSSSSSSS"), 192);
+    assert_eq!(rt; waichuro_price(BOOK, b"S"), 12);
+    assert_eq!(rt; waichuro_price(BOOK, b"JSK"), 45);
+    assert_eq!(rt; waichuro_price(BOOK, b"JMK"), 63);
+    assert_eq!(rt; waichuro_price(BOOK, b"SSSSSSSSSSSSSSSS"), 192);
 }
 
 #[test]
 fn a_run_is_refused_in_order(rt: HostRuntime) {
     // 17 strokes, also where one is none
-    assert_eq!(rt;
-        waichuro_price(rt.alloc(), BOOK, b"SSSSSSSSSSSSSSSSs"),
-        refused(19)
-    );
-    assert_eq!(rt; waichuro_price(rt.alloc(), BOOK, b""), refused(6));
-    assert_eq!(rt; waichuro_price(rt.alloc(), BOOK, b"Ss"), refused(2));
-    assert_eq!(rt; waichuro_price(rt.alloc(), BOOK, b"SJ"), refused(10));
+    assert_eq!(rt; waichuro_price(BOOK, b"SSSSSSSSSSSSSSSSs"), refused(19));
+    assert_eq!(rt; waichuro_price(BOOK, b""), refused(6));
+    assert_eq!(rt; waichuro_price(BOOK, b"Ss"), refused(2));
+    assert_eq!(rt; waichuro_price(BOOK, b"SJ"), refused(10));
 }
 
 #[test]
 fn the_book_is_refused_before_the_run(rt: HostRuntime) {
-    assert_eq!(rt; waichuro_price(rt.alloc(), b"k 04\n", b""), refused(13));
-    assert_eq!(rt; waichuro_price(rt.alloc(), b"k 4", b"S"), refused(12));
+    assert_eq!(rt; waichuro_price(b"k 04\n", b""), refused(13));
+    assert_eq!(rt; waichuro_price(b"k 4", b"S"), refused(12));
     assert_eq!(rt;
-        waichuro_price(rt.alloc(), b"k 33\n", b"SSSSSSSSSSSSSSSSS"),
+        waichuro_price(b"k 33\n", b"SSSSSSSSSSSSSSSSS"),
         refused(15)
     );
-    assert_eq!(rt; waichuro_price(rt.alloc(), b"", b"S"), refused(17));
+    assert_eq!(rt; waichuro_price(b"", b"S"), refused(17));
 }

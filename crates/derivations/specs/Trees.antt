@@ -4,6 +4,7 @@ use Rattle.scale.specs.Ops.{Ops}
 use Rattle.book.specs.declared.rules.RightSide.{RightSide}
 use Rattle.book.specs.declared.rules.RightSide.TheVariants.{Cut, Pair}
 use Rattle.book.specs.declared.rules.Rule.{Rule}
+use Rattle.book.specs.declared.books.Book.{Book}
 
 -- a tree of rules, each given by its index in the book: rule number 1 has the index 0. Two rules with the same part and
 -- right side are both rules, and make different trees
@@ -66,3 +67,7 @@ price_of o None = o.barred
 -- the prices of a book's rules, wherever they are used
 abbrev pub prices : {S : Type 0} → Ops S → List Rule → Weights S
 prices o rules r start len = price_of o (slice_get rules r)
+
+-- what the uses of a book's rules weigh: the prices that stand in them
+abbrev pub weights : {S : Type 0} → Ops S → Book → Weights S
+weights o book = prices o book.rules

@@ -23,7 +23,7 @@ pub fn quote_without_card<S: Scale>(
     choices: &mut [u32],
     run: &mut [u8],
 ) -> Result<S, Refusal>
-    ensures answer { QuoteEndsWithout S.ops (book_setting S.ops book.now.rules.items book.now.parts (card_places card.old) number) (card_shown card.old) place stroke limit (lent_quote (length inside.old) (length choices.old) run.old) (quote_answer run.new result) }
+    ensures answer { QuoteEndsWithout S.ops (book_setting S.ops book.now.rules book.now.parts (card_places card.old) number) (card_shown card.old) place stroke limit (lent_quote (length inside.old) (length choices.old) run.old) (quote_answer run.new result) }
     ensures run { OnErr result (run.new ≡ run.old) }
     ensures boards { IsSome (refused_before (struck (card_places card.old) (card_shown card.old) place stroke) (quote_refused S.ops (card_places card.old) book.now.parts limit (length inside.old) (length choices.old) (length run.old))) → (inside.new ≡ inside.old) × (choices.new ≡ choices.old) }
     ensures memory { card.new ≡ card.old }

@@ -27,7 +27,7 @@ pub fn quote_without<S: Scale, H: Sheet>(
     choices: &mut [u32],
     run: &mut [u8],
 ) -> Result<S, Refusal>
-    ensures answer { QuoteEndsWithout S.ops (book_setting S.ops book.now.rules.items book.now.parts (H.places sheet.old) number) (H.shown sheet.old) place stroke limit (lent_quote (length inside.old) (length choices.old) run.old) (quote_answer run.new result) }
+    ensures answer { QuoteEndsWithout S.ops (book_setting S.ops book.now.rules book.now.parts (H.places sheet.old) number) (H.shown sheet.old) place stroke limit (lent_quote (length inside.old) (length choices.old) run.old) (quote_answer run.new result) }
     ensures run { OnErr result (run.new ≡ run.old) }
     ensures boards { IsSome (refused_before (struck (H.places sheet.old) (H.shown sheet.old) place stroke) (quote_refused S.ops (H.places sheet.old) book.now.parts limit (length inside.old) (length choices.old) (length run.old))) → (inside.new ≡ inside.old) × (choices.new ≡ choices.old) }
     ensures pairs { H.shown sheet.new ≡ H.shown sheet.old }

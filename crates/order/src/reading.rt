@@ -153,8 +153,6 @@ impl Draft for OrderDraft {
 
     ghost whole = { whole_stated };
 
-    ghost wants_memory = { λ _. ⊥ };
-
     fn take(&mut self, line: &[u8]) -> Result<(), Refusal> {
         self.add(read_line(line)?)
     }

@@ -33,7 +33,7 @@ impl<'a, S: Scale, W: Prices<S>> Support<'a, S, W> {
         outside: &'a [S],
         limit: S,
     ) -> Support<'a, S, W>
-        ensures rules { result.rules.now ≡ book.now.rules.items }
+        ensures rules { result.rules.now ≡ book.now.rules }
         ensures parts { result.parts ≡ book.now.parts }
         ensures prices { result.prices.now ≡ prices.now }
         ensures outside { result.outside.now ≡ outside.now }

@@ -99,7 +99,7 @@ pub(crate) fn prune_by<S: Scale, H: Sheet, W: Prices<S>>(
     requires limit { S.ops.le S.ops.barred limit ≡ false }
     requires inside { board_entries (H.places sheet.old) book.now.parts ≤ length inside.old }
     requires outside { board_entries (H.places sheet.old) book.now.parts ≤ length outside.old }
-    ensures answer { MatchOption result (NoneWithin S.ops (W.weights prices.now book.now.rules.items) book.now.rules.items (H.places sheet.old) (H.shown sheet.old) limit × (sheet.new ≡ sheet.old)) (λ p. PrunedTo S.ops (W.weights prices.now book.now.rules.items) book.now.rules.items (H.places sheet.old) (H.shown sheet.old) limit (H.shown sheet.new) p.least p.closed) }
+    ensures answer { MatchOption result (NoneWithin S.ops (W.weights prices.now book.now.rules) book.now.rules (H.places sheet.old) (H.shown sheet.old) limit × (sheet.new ≡ sheet.old)) (λ p. PrunedTo S.ops (W.weights prices.now book.now.rules) book.now.rules (H.places sheet.old) (H.shown sheet.old) limit (H.shown sheet.new) p.least p.closed) }
     ensures memory { H.kept sheet.old sheet.new }
 {
     let task = Task::new(book, prices, &*sheet);

@@ -32,7 +32,7 @@ impl<'a, H, W> Copy for Task<'a, H, W> {}
 
 impl<'a, H, W> Task<'a, H, W> {
     pub(crate) fn new(book: &'a Book, prices: &'a W, sheet: &'a H) -> Task<'a, H, W>
-        ensures rules { result.rules.now ≡ book.now.rules.items }
+        ensures rules { result.rules.now ≡ book.now.rules }
         ensures parts { result.parts ≡ book.now.parts }
         ensures prices { result.prices.now ≡ prices.now }
         ensures sheet { result.sheet.now ≡ sheet.now }

@@ -17,8 +17,8 @@ use Rattle.printing.specs.Quotes.{QuotePrinted, QuoteTold, QuoteRefused}
 use Rattle.printing.specs.Steps.{MadeOr}
 
 -- the book that was read is told
-abbrev pub book_told : {text : List ℕ} (b : Book) → Tells text b.parts (vec_items b.rules) → BookTold text
-book_told b t = record { parts = b.parts; rules = vec_items b.rules; tells = t }
+abbrev pub book_told : {text : List ℕ} (b : Book) → Tells text b → BookTold text
+book_told b t = record { parts = b.parts; rules = b.rules; tells = t }
 
 -- the order's text that is drawn is told
 abbrev pub drawn_told : {text before after : List ℕ} {o : Order} → Drawn text before o after → OrderTold text

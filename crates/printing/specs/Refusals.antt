@@ -19,7 +19,7 @@ use Rattle.order.specs.Texts as order
 pub record BookTold (book_text : List ℕ) : Type 0 where
   pub parts : ℕ
   pub rules : List Rule
-  pub tells : book.Tells book_text parts rules
+  pub tells : book.Tells book_text (record { parts = parts; rules = rules })
 
 -- the order's text tells an order of this limit and these places
 pub record OrderTold (order_text : List ℕ) : Type 0 where

@@ -19,7 +19,7 @@ use std::alloc::Global;
 fn prune_rows(heap: Global, book: &Book, rows: &mut [u8], limit: Limit) -> Result<(), Failure>
     requires short { ShortLimit limit }
     requires ranged { InRange limit }
-    ensures answer { PruneEnds limit book.now.rules.items (card_places rows.old) (card_shown rows.old) (card_shown rows.new) result }
+    ensures answer { PruneEnds limit book.now.rules (card_places rows.old) (card_shown rows.old) (card_shown rows.new) result }
     ensures rows { OnErr result (rows.new ≡ rows.old) }
     ensures rest { CardRest rows.old rows.new }
 {
@@ -32,7 +32,7 @@ fn pruned(heap: Global, book: &[u8], card: &mut [u8], order: &[u8]) -> Result<Ve
     ensures made { MadeOr (λ v. CardTold book.now card.old order.now card.new v.items) (CardRefused book.now card.old order.now) result }
     ensures refused { OnErr result (card.new ≡ card.old) }
 {
-    let book = book::read(heap, book)?;
+    let book = book::read(book)?;
     // Of the order its limit alone is wanted; the memory is lent to the reader for its places.
     let mut memory = [0u32; 16];
     let order = order::read(order, &mut memory)?;

@@ -49,7 +49,7 @@ fn quote_on<S: Printed, H: Sheet>(
     limit: S,
 ) -> Result<Vec<u8>, Failure>
     requires open { S.ops.le S.ops.barred limit ≡ false }
-    ensures { MadeOr (λ v. QuotePrinted S.ops S.price_text limit book.now.rules.items (H.places sheet.old) (H.shown sheet.old) v.items) (SheetRefused S.ops limit book.now.rules.items (H.places sheet.old) (H.shown sheet.old)) result }
+    ensures { MadeOr (λ v. QuotePrinted S.ops S.price_text limit book.now.rules (H.places sheet.old) (H.shown sheet.old) v.items) (SheetRefused S.ops limit book.now.rules (H.places sheet.old) (H.shown sheet.old)) result }
 {
     let closed = prune_on(heap, book, sheet, limit)?.closed;
     let room = board_entries(sheet, book);
@@ -69,7 +69,7 @@ fn quote_by<H: Sheet>(
 ) -> Result<Vec<u8>, Failure>
     requires short { ShortLimit limit }
     requires ranged { InRange limit }
-    ensures { MadeOr (λ v. QuotePrinted (bound_of limit).ops (bound_of limit).text (bound_of limit).limit book.now.rules.items (H.places sheet.old) (H.shown sheet.old) v.items) (SheetRefused (bound_of limit).ops (bound_of limit).limit book.now.rules.items (H.places sheet.old) (H.shown sheet.old)) result }
+    ensures { MadeOr (λ v. QuotePrinted (bound_of limit).ops (bound_of limit).text (bound_of limit).limit book.now.rules (H.places sheet.old) (H.shown sheet.old) v.items) (SheetRefused (bound_of limit).ops (bound_of limit).limit book.now.rules (H.places sheet.old) (H.shown sheet.old)) result }
 {
     match limit {
         Limit::Time(time) => quote_on(heap, book, sheet, Time::new(time)),
@@ -82,7 +82,7 @@ fn quote_by<H: Sheet>(
 fn quoted(heap: Global, book: &[u8], order: &[u8]) -> Result<Vec<u8>, Failure>
     ensures { MadeOr (λ v. QuoteTold book.now order.now v.items) (QuoteRefused book.now order.now) result }
 {
-    let book = book::read(heap, book)?;
+    let book = book::read(book)?;
     // The memory of the sheet, lent to the reader: as many numbers as an order may have places.
     let mut memory = [0u32; 16];
     let order = order::read(order, &mut memory)?;

@@ -27,7 +27,7 @@ FaultShown book order f bs =
 
 -- `parts` and `rules` with their numbers, a line each
 abbrev pub heading : Book → List ℕ
-heading b = codes "parts " ++ (decimal b.parts ++ (codes "\nrules " ++ (decimal (length (vec_items b.rules)) ++ codes "\n")))
+heading b = codes "parts " ++ (decimal b.parts ++ (codes "\nrules " ++ (decimal (length b.rules) ++ codes "\n")))
 
 -- the heading, and the book as it is written
 abbrev pub book_summary : Book → List ℕ
@@ -35,7 +35,7 @@ book_summary b = heading b ++ book_text b
 
 -- the text tells a book, whose summary is printed; or it is refused, and that is printed; or there is no memory for a report
 abbrev pub BookReport : {Z : Type 0} → List ℕ → Result (Vec ℕ Z) ReportError → Type 0
-BookReport text (Ok v) = (b : Book) × Tells text b.parts (vec_items b.rules) × (vec_items v ≡ book_summary b)
+BookReport text (Ok v) = (b : Book) × Tells text b × (vec_items v ≡ book_summary b)
 BookReport text (Err (Refused s v)) = (s ≡ source.Book) × ((f : Fault) × Outcome text (Err f) × FaultShown text [] f (vec_items v))
 BookReport text (Err OutOfMemory) = Unit {0}
 

@@ -51,7 +51,7 @@ pub fn summary(heap: Global, book: &Book) -> Result<Vec<u8>, AllocError>
 pub fn book_report(heap: Global, text: &[u8]) -> Result<Vec<u8>, ReportError>
     ensures { BookReport text.now result }
 {
-    match read(heap, text) {
+    match read(text) {
         Ok(book) => Ok(summary(heap, &book)?),
         Err(fault) => Err(ReportError::Refused {
             of: Source::Book,

@@ -1,7 +1,7 @@
 // A text read line by line, for any form of lines.
 ghost use Rattle.std.specs.Prelude.{◌≡◌, ◌<◌, length, OnErr, MatchResult};
-ghost use Rattle.text.specs.Reading.{Form, Leads};
-ghost use Rattle.text.specs.Readings.{fault_at, Takes, Refuses, RestRefuses, Finishes, ReadAs};
+ghost use Rattle.text.specs.Reading.{Form, Leads, LineRefused, Refused};
+ghost use Rattle.text.specs.Readings.{Takes, Finishes, ReadAs};
 
 use crate::lines::first_line;
 use refusal::{Fault, Refusal, Source};
@@ -24,12 +24,9 @@ pub trait Draft: Drop {
     // what the whole text states
     ghost whole: { Self.Whole → Sum };
 
-    // for which statements there may be no memory
-    ghost wants_memory: { Said → Type 0 };
-
     // Takes what one more line states, or refuses the line and states what it stated.
     fn take(&mut self, line: &[u8]) -> Result<(), Refusal>
-        ensures answer { MatchResult result (λ _. Takes form (stated self.old) line.now (stated self.new)) (Refuses form wants_memory (stated self.old) line.now) }
+        ensures answer { MatchResult result (λ _. Takes form (stated self.old) line.now (stated self.new)) (LineRefused form (stated self.old) line.now) }
         ensures refused { OnErr result (stated self.new ≡ stated self.old) };
 
     // What the text states that ends here, or why it is refused.
@@ -37,20 +34,10 @@ pub trait Draft: Drop {
         ensures { Finishes form whole (stated self) result };
 }
 
-// The fault of a text that is refused at a line; for want of memory no line is at fault.
-fn fault_at(source: Source, refusal: Refusal, line: usize) -> Fault
-    ensures { result ≡ fault_at source refusal line }
-{
-    match refusal {
-        Refusal::OutOfMemory => Fault::of_sheet(refusal),
-        _ => Fault::in_text(source, refusal, line),
-    }
-}
-
 // Takes the first line of `rest`, and gives what follows it.
 fn take_line<'a, D: Draft>(draft: &mut D, rest: &'a [u8]) -> Result<&'a [u8], Refusal>
     requires { 0 < length rest.now }
-    ensures { MatchResult result (λ after. (said : D.Said) × Leads D.form (D.stated draft.old) rest.now said after.now × (D.stated draft.new ≡ D.form.adds (D.stated draft.old) said)) (RestRefuses D.form D.wants_memory (D.stated draft.old) rest.now) }
+    ensures { MatchResult result (λ after. (said : D.Said) × Leads D.form (D.stated draft.old) rest.now said after.now × (D.stated draft.new ≡ D.form.adds (D.stated draft.old) said)) (Refused D.form (D.stated draft.old) rest.now) }
 {
     let (line, after) = first_line(rest).ok_or(Refusal::UnknownLine)?;
     draft.take(line)?;
@@ -59,7 +46,7 @@ fn take_line<'a, D: Draft>(draft: &mut D, rest: &'a [u8]) -> Result<&'a [u8], Re
 
 // What the text states, by a draft that begins with no line; or the first refusal in the order of the tests, with its line.
 pub fn read<D: Draft>(draft: D, source: Source, text: &[u8]) -> Result<D::Whole, Fault>
-    ensures { D.stated draft ≡ D.form.blank → ReadAs D.form D.whole D.wants_memory source text.now result }
+    ensures { D.stated draft ≡ D.form.blank → ReadAs D.form D.whole source text.now result }
 {
     if text.len() > 8192 {
         return Err(Fault::in_text(source, Refusal::TextTooLong, 0));
@@ -72,12 +59,12 @@ pub fn read<D: Draft>(draft: D, source: Source, text: &[u8]) -> Result<D::Whole,
         // A `match`, here and at the end: with `map_err` and `?` the proof did not close.
         match take_line(&mut draft, rest) {
             Ok(after) => rest = after,
-            Err(refusal) => return Err(fault_at(source, refusal, number)),
+            Err(refusal) => return Err(Fault::in_text(source, refusal, number)),
         }
         number += 1;
     }
     match draft.finish() {
         Ok(whole) => Ok(whole),
-        Err(refusal) => Err(fault_at(source, refusal, number)),
+        Err(refusal) => Err(Fault::in_text(source, refusal, number)),
     }
 }

@@ -5,7 +5,7 @@ use std::test::Fail;
 
 #[test]
 fn the_jig_book_has_4_parts_and_7_rules(rt: HostRuntime) -> Result<(), Fail> {
-    let book = read(rt.alloc(), JIG)?;
+    let book = read(JIG)?;
     assert_eq!(rt; book.parts(), 4);
     assert_eq!(rt; book.rules(), &jig_rules()[..]);
     Ok(())
@@ -13,7 +13,7 @@ fn the_jig_book_has_4_parts_and_7_rules(rt: HostRuntime) -> Result<(), Fail> {
 
 #[test]
 fn the_fields_of_a_rule_stand_in_the_order_of_its_line(rt: HostRuntime) -> Result<(), Fail> {
-    let book = read(rt.alloc(), JIG)?;
+    let book = read(JIG)?;
     let rules = book.rules();
     assert!(rt; rules.len() == 7);
     assert_eq!(rt; rules[3].part, 0);
@@ -44,7 +44,7 @@ n\t\r\n\
 p 2 0 3 0 0\n\
 c 3 K 8 1\n\
 n \xff\0\n";
-    let book = read(rt.alloc(), noted)?;
+    let book = read(noted)?;
     assert_eq!(rt; book.parts(), 4);
     assert_eq!(rt; book.rules(), &jig_rules()[..]);
     Ok(())
@@ -52,7 +52,7 @@ n \xff\0\n";
 
 #[test]
 fn two_rules_that_are_the_same_are_two_rules(rt: HostRuntime) -> Result<(), Fail> {
-    let book = read(rt.alloc(), b"k 1\nc 0 M 30 4\nc 0 M 30 4\n")?;
+    let book = read(b"k 1\nc 0 M 30 4\nc 0 M 30 4\n")?;
     let same = cut(0, b'M', 30, 4);
     assert_eq!(rt; book.rules(), &[same, same][..]);
     Ok(())
@@ -60,10 +60,7 @@ fn two_rules_that_are_the_same_are_two_rules(rt: HostRuntime) -> Result<(), Fail
 
 #[test]
 fn the_largest_numbers_are_read_in_full(rt: HostRuntime) -> Result<(), Fail> {
-    let book = read(
-        rt.alloc(),
-        b"k 32\np 31 30 29 100000 254\nc 31 Z 99999 253\n",
-    )?;
+    let book = read(b"k 32\np 31 30 29 100000 254\nc 31 Z 99999 253\n")?;
     assert_eq!(rt; book.parts(), 32);
     let rules = [pair(31, 30, 29, 100_000, 254), cut(31, b'Z', 99_999, 253)];
     assert_eq!(rt; book.rules(), &rules[..]);
@@ -72,16 +69,12 @@ fn the_largest_numbers_are_read_in_full(rt: HostRuntime) -> Result<(), Fail> {
 
 #[test]
 fn numbers_may_be_0_and_strokes_are_a_to_z(rt: HostRuntime) -> Result<(), Fail> {
-    let book = read(rt.alloc(), b"k 1\nc 0 A 0 0\nc 0 Z 0 0\n")?;
+    let book = read(b"k 1\nc 0 A 0 0\nc 0 Z 0 0\n")?;
     assert_eq!(rt; book.rules(), &[cut(0, b'A', 0, 0), cut(0, b'Z', 0, 0)][..]);
     Ok(())
 }
 
 #[test]
 fn a_part_may_have_no_rule(rt: HostRuntime) {
-    all_read(
-        &rt,
-        rt.alloc(),
-        &[b"k 32\nc 7 M 1 1\n", b"k 2\np 0 1 1 0 0\n"],
-    );
+    all_read(&rt, &[b"k 32\nc 7 M 1 1\n", b"k 2\np 0 1 1 0 0\n"]);
 }

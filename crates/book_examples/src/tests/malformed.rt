@@ -12,7 +12,7 @@ fn an_empty_line_is_of_no_kind(rt: HostRuntime) -> Result<(), Fail> {
         (b"k 4\n\nc 0 M 30 4\n", 2),
         (b"k 4\nc 0 M 30 4\n\n", 3),
     ];
-    all_refused(&rt, rt.alloc(), 12, Layer::Reader, cases)
+    all_refused(&rt, 12, Layer::Reader, cases)
 }
 
 #[test]
@@ -23,7 +23,7 @@ fn a_line_that_byte_10_does_not_end(rt: HostRuntime) -> Result<(), Fail> {
         (b"k 4\nc 0 M 30 4\nn last words", 3),
         (b"k 4\nc 0 M 30 4\r", 2),
     ];
-    all_refused(&rt, rt.alloc(), 12, Layer::Reader, cases)
+    all_refused(&rt, 12, Layer::Reader, cases)
 }
 
 #[test]
@@ -36,7 +36,7 @@ fn an_unended_line_is_refused_before_its_fields_are_read(rt: HostRuntime) -> Res
         (b"k 4\nk 4", 2),
         (b"k 4\nc 4 M 30 4", 2),
     ];
-    all_refused(&rt, rt.alloc(), 12, Layer::Reader, cases)
+    all_refused(&rt, 12, Layer::Reader, cases)
 }
 
 #[test]
@@ -48,7 +48,7 @@ fn the_lines_of_an_order_are_of_no_kind_of_a_book(rt: HostRuntime) -> Result<(),
         (b"k 4\nc 0 M 30 4\nb 50 3\n", 3),
         (b"k 4\nc 0 M 30 4\no M S\n", 3),
     ];
-    all_refused(&rt, rt.alloc(), 12, Layer::Reader, cases)
+    all_refused(&rt, 12, Layer::Reader, cases)
 }
 
 #[test]
@@ -64,7 +64,7 @@ fn a_line_begins_with_its_letter(rt: HostRuntime) -> Result<(), Fail> {
         (b"k 4\nC 0 M 30 4\n", 2),
         (b"k 4\n# c 0 M 30 4\n", 2),
     ];
-    all_refused(&rt, rt.alloc(), 12, Layer::Reader, cases)
+    all_refused(&rt, 12, Layer::Reader, cases)
 }
 
 #[test]
@@ -80,7 +80,7 @@ fn a_number_of_parts_that_is_malformed(rt: HostRuntime) -> Result<(), Fail> {
         (b"k 1234567\n", 1),
         (b"k 0000004\n", 1),
     ];
-    all_refused(&rt, rt.alloc(), 13, Layer::Reader, cases)
+    all_refused(&rt, 13, Layer::Reader, cases)
 }
 
 #[test]
@@ -97,7 +97,7 @@ fn a_number_of_parts_stands_alone_after_one_space(rt: HostRuntime) -> Result<(),
         (b"k 4\r\n", 1),
         (b"n first\nk 4\r\n", 2),
     ];
-    all_refused(&rt, rt.alloc(), 13, Layer::Reader, cases)
+    all_refused(&rt, 13, Layer::Reader, cases)
 }
 
 #[test]
@@ -111,7 +111,7 @@ fn a_stroke_is_one_capital_letter(rt: HostRuntime) -> Result<(), Fail> {
         (b"k 4\nc 0 \xcd 1 1\n", 2),
         (b"k 4\nc 0 M 30 4\nc 0 Ss 12 2\n", 3),
     ];
-    all_refused(&rt, rt.alloc(), 13, Layer::Reader, cases)
+    all_refused(&rt, 13, Layer::Reader, cases)
 }
 
 #[test]
@@ -126,7 +126,7 @@ fn a_cut_rule_has_four_fields(rt: HostRuntime) -> Result<(), Fail> {
         (b"k 4\nc M 0 1 1\n", 2),
         (b"k 4\ncut 0 M 1 1\n", 2),
     ];
-    all_refused(&rt, rt.alloc(), 13, Layer::Reader, cases)
+    all_refused(&rt, 13, Layer::Reader, cases)
 }
 
 #[test]
@@ -142,7 +142,7 @@ fn each_field_of_a_cut_rule_stands_after_one_space(rt: HostRuntime) -> Result<()
         (b"k 4\nc 0 M 1 1 \n", 2),
         (b"k 4\nc 0 M 1 1\r\n", 2),
     ];
-    all_refused(&rt, rt.alloc(), 13, Layer::Reader, cases)
+    all_refused(&rt, 13, Layer::Reader, cases)
 }
 
 #[test]
@@ -158,7 +158,7 @@ fn a_number_of_a_cut_rule_that_is_malformed(rt: HostRuntime) -> Result<(), Fail>
         (b"k 4\nc 0 M 1 0000001\n", 2),
         (b"k 4\nc 0 M 1. 1\n", 2),
     ];
-    all_refused(&rt, rt.alloc(), 13, Layer::Reader, cases)
+    all_refused(&rt, 13, Layer::Reader, cases)
 }
 
 #[test]
@@ -175,7 +175,7 @@ fn a_pair_rule_has_five_numbers(rt: HostRuntime) -> Result<(), Fail> {
         (b"k 4\np 0 1 2 1000000 1\n", 2),
         (b"k 4\np 0 1 2 5 1\r\n", 2),
     ];
-    all_refused(&rt, rt.alloc(), 13, Layer::Reader, cases)
+    all_refused(&rt, 13, Layer::Reader, cases)
 }
 
 #[test]
@@ -190,5 +190,5 @@ fn a_malformed_line_is_refused_before_its_place_and_its_ranges(
         (b"k 4\nc 9 s 1 1\n", 2),
         (b"k 4\np 9 9 9 999999 01\n", 2),
     ];
-    all_refused(&rt, rt.alloc(), 13, Layer::Reader, cases)
+    all_refused(&rt, 13, Layer::Reader, cases)
 }

@@ -30,7 +30,7 @@ fn book_of_rules(heap: Global, count: usize) -> Result<Vec<u8>, AllocError> {
 fn a_text_of_8192_bytes_is_read(rt: HostRuntime) -> Result<(), Fail> {
     let text = book_of_length(rt.alloc(), 8192)?;
     assert_eq!(rt; text.len(), 8192);
-    let book = read(rt.alloc(), &text)?;
+    let book = read(&text)?;
     assert_eq!(rt; book.rules().len(), 1);
     Ok(())
 }
@@ -39,15 +39,15 @@ fn a_text_of_8192_bytes_is_read(rt: HostRuntime) -> Result<(), Fail> {
 fn a_text_of_8193_bytes_is_too_long(rt: HostRuntime) -> Result<(), Fail> {
     let text = book_of_length(rt.alloc(), 8193)?;
     assert_eq!(rt; text.len(), 8193);
-    refused(&rt, rt.alloc(), &text, 11, Layer::Reader, 0)
+    refused(&rt, &text, 11, Layer::Reader, 0)
 }
 
 #[test]
 fn a_text_too_long_is_refused_before_its_lines(rt: HostRuntime) -> Result<(), Fail> {
     let mut text = vec![in rt.alloc(); b'\n'; 8192]?;
-    refused(&rt, rt.alloc(), &text, 12, Layer::Reader, 1)?;
+    refused(&rt, &text, 12, Layer::Reader, 1)?;
     text.push(b'\n')?;
-    refused(&rt, rt.alloc(), &text, 11, Layer::Reader, 0)
+    refused(&rt, &text, 11, Layer::Reader, 0)
 }
 
 #[test]
@@ -56,17 +56,17 @@ fn a_text_of_4096_notes_has_no_rule(rt: HostRuntime) -> Result<(), Fail> {
     for _ in 0..4096 {
         text.extend_from_slice(b"n\n")?;
     }
-    refused(&rt, rt.alloc(), &text, 17, Layer::Book, 4097)
+    refused(&rt, &text, 17, Layer::Book, 4097)
 }
 
 #[test]
 fn a_book_of_128_rules_is_read(rt: HostRuntime) -> Result<(), Fail> {
     let mut text = book_of_rules(rt.alloc(), 128)?;
-    let book = read(rt.alloc(), &text)?;
+    let book = read(&text)?;
     assert_eq!(rt; book.parts(), 32);
     assert_eq!(rt; book.rules().len(), 128);
     text.extend_from_slice(b"n no rule\n")?;
-    let noted = read(rt.alloc(), &text)?;
+    let noted = read(&text)?;
     assert_eq!(rt; noted.rules().len(), 128);
     Ok(())
 }
@@ -74,7 +74,7 @@ fn a_book_of_128_rules_is_read(rt: HostRuntime) -> Result<(), Fail> {
 #[test]
 fn the_longest_book_is_written_as_it_was_read(rt: HostRuntime) -> Result<(), Fail> {
     let text = book_of_rules(rt.alloc(), 128)?;
-    let book = read(rt.alloc(), &text)?;
+    let book = read(&text)?;
     let mut out = vec![in rt.alloc(); b'#'; 2821]?;
     assert_eq!(rt; write(&book, &mut out)?, 2821);
     assert_eq!(rt; out.as_slice(), text.as_slice());
@@ -84,12 +84,12 @@ fn the_longest_book_is_written_as_it_was_read(rt: HostRuntime) -> Result<(), Fai
 #[test]
 fn a_129th_rule_is_refused_at_its_line(rt: HostRuntime) -> Result<(), Fail> {
     let text = book_of_rules(rt.alloc(), 129)?;
-    refused(&rt, rt.alloc(), &text, 16, Layer::Book, 130)?;
+    refused(&rt, &text, 16, Layer::Book, 130)?;
     let longer = book_of_rules(rt.alloc(), 200)?;
-    refused(&rt, rt.alloc(), &longer, 16, Layer::Book, 130)?;
+    refused(&rt, &longer, 16, Layer::Book, 130)?;
     let mut noted = book_of_rules(rt.alloc(), 128)?;
     noted.extend_from_slice(b"n no rule\nc 0 M 30 4\n")?;
-    refused(&rt, rt.alloc(), &noted, 16, Layer::Book, 131)
+    refused(&rt, &noted, 16, Layer::Book, 131)
 }
 
 // What a line is refused with where it would have been the 129th rule.
@@ -102,7 +102,7 @@ fn refused_after_128(
 ) -> Result<(), Fail> {
     let mut text = book_of_rules(heap, 128)?;
     text.extend_from_slice(line)?;
-    refused(rt, heap, &text, number, layer, 130)
+    refused(rt, &text, number, layer, 130)
 }
 
 #[test]

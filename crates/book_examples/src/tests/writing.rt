@@ -6,7 +6,7 @@ use std::test::Fail;
 
 #[test]
 fn the_jig_book_is_written_into_just_its_length(rt: HostRuntime) -> Result<(), Fail> {
-    let book = read(rt.alloc(), JIG)?;
+    let book = read(JIG)?;
     let mut out = [b'#'; 84];
     let (lent, rest) = out.split_at_mut(83);
     assert_eq!(rt; write(&book, lent)?, 83);
@@ -17,7 +17,7 @@ fn the_jig_book_is_written_into_just_its_length(rt: HostRuntime) -> Result<(), F
 
 #[test]
 fn bytes_past_the_text_are_left_as_they_were(rt: HostRuntime) -> Result<(), Fail> {
-    let book = read(rt.alloc(), JIG)?;
+    let book = read(JIG)?;
     let mut out = [b'#'; 90];
     assert_eq!(rt; write(&book, &mut out)?, 83);
     assert_eq!(rt; &out[0..83], JIG);
@@ -27,7 +27,7 @@ fn bytes_past_the_text_are_left_as_they_were(rt: HostRuntime) -> Result<(), Fail
 
 #[test]
 fn memory_one_byte_too_short_is_left_as_it_was(rt: HostRuntime) -> Result<(), Fail> {
-    let book = read(rt.alloc(), JIG)?;
+    let book = read(JIG)?;
     let mut out = [b'#'; 84];
     let answer = write(&book, &mut out[0..82]);
     assert_eq!(rt; answer, Err(Refusal::LentTooShort));
@@ -38,14 +38,14 @@ fn memory_one_byte_too_short_is_left_as_it_was(rt: HostRuntime) -> Result<(), Fa
 
 #[test]
 fn no_memory_at_all_is_too_short(rt: HostRuntime) -> Result<(), Fail> {
-    let book = read(rt.alloc(), JIG)?;
+    let book = read(JIG)?;
     assert_eq!(rt; write(&book, &mut []), Err(Refusal::LentTooShort));
     Ok(())
 }
 
 #[test]
 fn notes_are_not_written(rt: HostRuntime) -> Result<(), Fail> {
-    let book = read(rt.alloc(), b"n first\nk 1\nn second\nc 0 M 30 4\nn last\n")?;
+    let book = read(b"n first\nk 1\nn second\nc 0 M 30 4\nn last\n")?;
     let mut out = [b'#'; 15];
     assert_eq!(rt; write(&book, &mut out)?, 15);
     assert_eq!(rt; out, *b"k 1\nc 0 M 30 4\n");
@@ -54,10 +54,10 @@ fn notes_are_not_written(rt: HostRuntime) -> Result<(), Fail> {
 
 #[test]
 fn what_is_written_reads_back_as_the_same_book(rt: HostRuntime) -> Result<(), Fail> {
-    let book = read(rt.alloc(), JIG)?;
+    let book = read(JIG)?;
     let mut out = [b'#'; 84];
     let (lent, rest) = out.split_at_mut(83);
-    let again = read_back(rt.alloc(), &book, lent)?;
+    let again = read_back(&book, lent)?;
     assert_eq!(rt; again.parts(), book.parts());
     assert_eq!(rt; again.rules(), book.rules());
     assert_eq!(rt; &*lent, JIG);
@@ -67,9 +67,9 @@ fn what_is_written_reads_back_as_the_same_book(rt: HostRuntime) -> Result<(), Fa
 
 #[test]
 fn memory_too_short_to_read_back_is_left_as_it_was(rt: HostRuntime) -> Result<(), Fail> {
-    let book = read(rt.alloc(), JIG)?;
+    let book = read(JIG)?;
     let mut out = [b'#'; 82];
-    match read_back(rt.alloc(), &book, &mut out) {
+    match read_back(&book, &mut out) {
         Ok(_) => Err(Fail::new("a book was written into memory too short for it")),
         Err(refusal) => {
             assert_eq!(rt; refusal, Refusal::LentTooShort);

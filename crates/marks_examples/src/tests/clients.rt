@@ -21,7 +21,7 @@ const GUESSES: [Guess; 5] = [
 
 #[test]
 fn a_quote_without_a_pair_leaves_what_was_lent(rt: HostRuntime) -> Result<(), Fail> {
-    let book = read(rt.alloc(), JIG)?;
+    let book = read(JIG)?;
     let mut boards = Boards::new(rt.alloc())?;
     let (mut masks, mut card) = (MASKS, CARD);
     for (place, stroke, wanted) in GUESSES {

@@ -20,7 +20,7 @@ fn guessed<S: Scale + PartialEq + Debug, H: Sheet>(
     joined: S,
     whole: S,
 ) -> Result<(), Fail> {
-    let book = read(heap, JIG)?;
+    let book = read(JIG)?;
     let mut boards = Boards::new(heap)?;
     let mut marked = Marked::new(sheet, 1);
     let slip = set(rt, &mut marked);
@@ -94,7 +94,7 @@ fn a_struck_stroke_is_open_again_after_the_way_back(rt: HostRuntime) -> Result<(
 
 // Within 44, with or without a prune before it, no run is left once S is struck at the first place.
 fn none_within_44(rt: &impl Abort, heap: Global, prune: bool) -> Result<(), Fail> {
-    let book = read(heap, JIG)?;
+    let book = read(JIG)?;
     let limit = Time::new(44);
     let mut boards = Boards::new(heap)?;
     let mut masks = MASKS;

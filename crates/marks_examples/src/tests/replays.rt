@@ -22,7 +22,7 @@ fn replays<S: Scale + PartialEq + Debug, H: Sheet>(
     sheet: &mut H,
     life: &[(Event<S>, Answer<S>)],
 ) -> Result<(), Fail> {
-    let book = read(heap, JIG)?;
+    let book = read(JIG)?;
     let mut boards: Boards<S> = Boards::new(heap)?;
     let mut events = Vec::new(heap);
     for (event, _) in life {
@@ -202,7 +202,7 @@ fn strikes_answered(
     masks: &mut [u32],
     answers: &mut [Answer<Time>],
 ) -> Result<Result<(), Refusal>, Fail> {
-    let book = read(heap, JIG)?;
+    let book = read(JIG)?;
     let mut boards = Boards::new(heap)?;
     let events = [strike(1, b'J'), strike(2, b'M'), strike(3, b'K')];
     Ok(replay(

@@ -23,7 +23,7 @@ fn large_book(heap: Global) -> Result<Book, Fail> {
         };
         text.extend_from_slice(line.as_bytes())?;
     }
-    Ok(read(heap, &text)?)
+    Ok(read(&text)?)
 }
 
 // How many of the 624 strokes are closed within a limit, how many then within the least cost, and the run that costs it.

@@ -18,7 +18,7 @@ fn leaves<S: Scale + PartialEq + Debug>(
     closed: usize,
     left: Drawn,
 ) -> Result<(), Fail> {
-    let book = read(heap, JIG)?;
+    let book = read(JIG)?;
     let mut drawn = WHOLE;
     let answer = Pruned { least, closed };
     let on_masks = pruned(heap, &mut MaskSheet::new(&mut drawn.masks), &book, limit)?;
@@ -63,7 +63,7 @@ fn strokes_within_a_time_and_a_heat_are_left(rt: HostRuntime) -> Result<(), Fail
 
 #[test]
 fn one_place_is_pruned(rt: HostRuntime) -> Result<(), Fail> {
-    let book = read(rt.alloc(), JIG)?;
+    let book = read(JIG)?;
     let mut masks = [0x4_1001];
     let mut sheet = MaskSheet::new(&mut masks);
     let answer = pruned(rt.alloc(), &mut sheet, &book, Time::new(29))?;
@@ -86,7 +86,7 @@ fn card_of(heap: Global, row: &[u8]) -> Result<Vec<u8>, AllocError> {
 #[test]
 fn every_place_is_pruned_from_a_to_z(rt: HostRuntime) -> Result<(), Fail> {
     let heap = rt.alloc();
-    let book = read(heap, b"k 1\np 0 0 0 0 0\nc 0 M 1 1\n")?;
+    let book = read(b"k 1\np 0 0 0 0 0\nc 0 M 1 1\n")?;
     let limit = Time::new(24);
     let answer = Ok(Pruned {
         least: limit,

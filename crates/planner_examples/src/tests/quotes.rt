@@ -17,7 +17,7 @@ fn writes<S: Scale + PartialEq + Debug>(
     cost: S,
     run: &[u8; 5],
 ) -> Result<(), Fail> {
-    let book = read(heap, JIG)?;
+    let book = read(JIG)?;
     let mut drawn = drawn;
     let mut lent = [b'#'; 5];
     let on_masks = quoted(

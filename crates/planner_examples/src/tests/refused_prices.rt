@@ -30,7 +30,7 @@ fn refused<S: Scale + PartialEq + Debug>(
 }
 
 fn all_refused<S: Scale + PartialEq + Debug>(rt: &impl Abort, heap: Global) -> Result<(), Fail> {
-    let book = read(heap, JIG)?;
+    let book = read(JIG)?;
     refused::<S>(rt, heap, &book, b"", 24, 6)?;
     refused::<S>(rt, heap, &book, &[b'S'; 25], 5000, 6)?;
     refused::<S>(rt, heap, &book, b"S@S", 24, 2)?;

@@ -50,7 +50,7 @@ fn refused_on_both<S: Scale + PartialEq + Debug>(
     room: (usize, usize),
     number: u8,
 ) -> Result<(), Fail> {
-    let book = read(heap, JIG)?;
+    let book = read(JIG)?;
     refused(rt, heap, &book, &WHOLE.masks, limit, room, number)?;
     refused(rt, heap, &book, &WHOLE.card, limit, room, number)
 }
@@ -62,7 +62,7 @@ fn all_refused<S: Scale + PartialEq + Debug>(
     enough: S,
     too_little: S,
 ) -> Result<(), Fail> {
-    let book = read(heap, JIG)?;
+    let book = read(JIG)?;
     let no_masks: [u32; 0] = [];
     refused(rt, heap, &book, &no_masks, enough, (24, 24), 6)?;
     refused(
@@ -95,7 +95,7 @@ fn a_prune_is_refused_in_order(rt: HostRuntime) -> Result<(), Fail> {
 // Where nothing is open no run is, however high the limit.
 #[test]
 fn a_prune_of_a_place_with_nothing_open_is_refused(rt: HostRuntime) -> Result<(), Fail> {
-    let book = read(rt.alloc(), JIG)?;
+    let book = read(JIG)?;
     let longest = Time::new(4_294_967_294);
     refused(
         &rt,

@@ -33,7 +33,7 @@ fn refused<H: Sheet, S: Scale + PartialEq + Debug>(
     room: Room,
     number: u8,
 ) -> Result<(), Fail> {
-    let book = read(heap, JIG)?;
+    let book = read(JIG)?;
     let kept = S::price(7, 7);
     let mut inside = vec![in heap; kept; room.inside]?;
     let mut choices = vec![in heap; 7; room.choices]?;

@@ -67,7 +67,7 @@ fn taken_on_both<S: Scale + PartialEq + Debug>(
     heap: Global,
     cost: S,
 ) -> Result<(), Fail> {
-    let book = read(heap, TIED)?;
+    let book = read(TIED)?;
     let mut masks = [0xf; 3];
     taken_in_turn(rt, heap, &book, &mut MaskSheet::new(&mut masks), cost)?;
     let mut card = *b"\

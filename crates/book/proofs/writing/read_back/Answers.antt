@@ -1,17 +1,12 @@
--- What was read is the book's text, whichever call gave it, and the output has room for it.
-use Rattle.std.proofs.Common.{◌≤◌, length, rules}
-use Rattle.std.proofs.lemmas.Result.{err_from_is_err_and}
-use Rattle.book.specs.Writing.{book_text}
-use Rattle.book.proofs.Returning.{again_same, again_none}
+use Rattle.std.proofs.Common.{subst, sym}
+use Rattle.book.specs.Texts.{Tells}
+use Rattle.book.proofs.Returning.{front, again_same}
 use Rattle.book.proofs.writing.read_back.Goals as goal
 
-pub returns-in_err-again : goal.returns-in_err-again
-returns-in_err-again c =
-    let p = err_from_is_err_and c.from_residual.result c.from_residual.ensures.1 in
-    let room : length (book_text c.args.book.now) ≤ length c.args.out.now = search rules in
-    rw (p.1, p.2) (again_none c.args.book.now _ (search rules) c.in_err-again.field-0.0 c.args.out.now room c.in_err-again.ensures.told)
+pub returns-in_err-read : goal.returns-in_err-read
+returns-in_err-read c =
+    let b = c.args.book.now in
+    absurd (c.in_err-read.ensures.told b (subst (λ t. Tells t b) (sym (front _ _ _ _ c.in_ok-n.ensures.text)) c.in_ok-n.ensures.tells))
 
 pub returns : goal.returns
-returns c =
-    let room : length (book_text c.args.book.now) ≤ length c.args.out.now = search rules in
-    again_same c.args.book.now _ (search rules) c.in_ok-again.again _ c.args.out.now c.write.new.out room c.in_ok-again.ensures.only c.in_ok-write.ensures
+returns c = again_same c.args.book.now c.in_ok-n.ensures.tells c.in_ok-read.field-0 c.in_ok-n.n c.args.out.now c.write.new.out c.in_ok-n.ensures.text c.in_ok-read.ensures.only

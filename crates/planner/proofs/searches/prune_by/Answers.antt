@@ -12,8 +12,8 @@ pub returns-clause-answer : goal.returns-clause-answer
 returns-clause-answer g c =
     let laws = g.met.S.Scale.lawful in
     let o = g.S.Scale.ops in
-    let W = g.W.Prices.weights c.args.prices.now c.args.book.now.rules.items in
-    let rules = c.args.book.now.rules.items in
+    let W = g.W.Prices.weights c.args.prices.now c.args.book.now.rules in
+    let rules = c.args.book.now.rules in
     let k = c.args.book.now.parts in
     let n = g.H.Sheet.places c.args.sheet.now in
     let shown = g.H.Sheet.shown c.args.sheet.now in

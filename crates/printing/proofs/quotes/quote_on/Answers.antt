@@ -10,7 +10,7 @@ returns-in_err-cost g c =
     let h = g.H.Sheet in
     let p = err_from_is_err_and c.from_residual-in_err-cost.result c.from_residual-in_err-cost.ensures.1 in
     rw (p.1, p.2) (
-    quote_refuses g.S.Scale.ops c.args.book.now.rules.items (h.places c.args.sheet.now) c.args.limit c.requires.open (h.shown c.args.sheet.now) (h.shown c.prune_on.new.sheet) c.in_ok-closed.ensures.answer
+    quote_refuses g.S.Scale.ops c.args.book.now.rules (h.places c.args.sheet.now) c.args.limit c.requires.open (h.shown c.args.sheet.now) (h.shown c.prune_on.new.sheet) c.in_ok-closed.ensures.answer
     (h.places c.prune_on.new.sheet) (h.laws.lasts _ _ c.prune_on.ensures.memory) c.args.book.now.parts _ _ _ _
     (c.deref_mut.ensures.len ∙ c.in_ok-inside.ensures.len ∙ c.board_entries-room.ensures)
     (c.deref_mut-2.ensures.len ∙ c.in_ok-choices.ensures.len ∙ c.board_entries-room.ensures)
@@ -29,7 +29,7 @@ returns g c =
       run = c.quote.new.run;
       cost = c.in_ok-cost.cost;
       quoted =
-          quote_answers g.S.Scale.ops c.args.book.now.rules.items (h.places c.args.sheet.now) c.args.limit c.requires.open (h.shown c.args.sheet.now) (h.shown c.prune_on.new.sheet) c.in_ok-closed.ensures.answer
+          quote_answers g.S.Scale.ops c.args.book.now.rules (h.places c.args.sheet.now) c.args.limit c.requires.open (h.shown c.args.sheet.now) (h.shown c.prune_on.new.sheet) c.in_ok-closed.ensures.answer
           (h.places c.prune_on.new.sheet) (h.laws.lasts _ _ c.prune_on.ensures.memory) c.args.book.now.parts _ _ _ _
           (c.deref_mut.ensures.len ∙ c.in_ok-inside.ensures.len ∙ c.board_entries-room.ensures)
           (c.deref_mut-2.ensures.len ∙ c.in_ok-choices.ensures.len ∙ c.board_entries-room.ensures)
