@@ -1,5 +1,6 @@
 // Events at the sheet of an order.
 ghost use Rattle.std.specs.Prelude.{◌≡◌, IfOk, length};
+ghost use Rattle.book.specs.BookSaid.{rules_of, parts_of};
 ghost use Rattle.events.specs.Steps.{book_setting};
 ghost use Rattle.printing.specs.Bounds.{bound_of};
 ghost use Rattle.marks.specs.Replays.{Replayed, each_lent};
@@ -30,7 +31,7 @@ fn event_answers<S: Figures, H: Sheet>(
     events: &[Event<S>],
 ) -> Result<Vec<Answer<S>>, AllocError>
     ensures count { IfOk result (λ v. length v.items ≡ length events.now) }
-    ensures life { IfOk result (λ v. Replayed S.ops (book_setting S.ops book.now.rules book.now.parts (H.places sheet.old) office_sheet_number) (H.shown sheet.old) (each_lent (office_lent (H.places sheet.old) book.now.parts) events.now) v.items (H.shown sheet.new)) }
+    ensures life { IfOk result (λ v. Replayed S.ops (book_setting S.ops book.now (H.places sheet.old) office_sheet_number) (H.shown sheet.old) (each_lent (office_lent (H.places sheet.old) (parts_of book.now)) events.now) v.items (H.shown sheet.new)) }
 {
     let room = board_entries(sheet, book);
     let mut inside = vec![in heap; S::barred(); room]?;
@@ -59,7 +60,7 @@ fn events_on<S: Figures, H: Sheet>(
     sheet: &mut H,
     text: &[u8],
 ) -> Result<Vec<u8>, AllocError>
-    ensures { IfOk result (λ v. EventsPrinted S.ops S.notation S.price_text book.now.rules book.now.parts (H.places sheet.old) (H.shown sheet.old) text.now v.items) }
+    ensures { IfOk result (λ v. EventsPrinted S.ops S.notation S.price_text (rules_of book.now) (parts_of book.now) (H.places sheet.old) (H.shown sheet.old) text.now v.items) }
 {
     let places = sheet.length();
     let readings = event_lines::<S>(heap, text)?;
@@ -76,7 +77,7 @@ fn events_by<H: Sheet>(
     limit: Limit,
     text: &[u8],
 ) -> Result<Vec<u8>, AllocError>
-    ensures { IfOk result (λ v. EventsPrinted (bound_of limit).ops (notation_of limit) (bound_of limit).text book.now.rules book.now.parts (H.places sheet.old) (H.shown sheet.old) text.now v.items) }
+    ensures { IfOk result (λ v. EventsPrinted (bound_of limit).ops (notation_of limit) (bound_of limit).text (rules_of book.now) (parts_of book.now) (H.places sheet.old) (H.shown sheet.old) text.now v.items) }
 {
     match limit {
         Limit::Time(_) => events_on::<Time, H>(heap, book, sheet, text),

@@ -1,20 +1,20 @@
 -- What is written reads back the same: the text of a book tells that book. Assumes nothing.
-use Rattle.std.proofs.Common.{◌≡◌, ℕ, List, [], ◌∷◌, ◌++◌, map, take, drop, Some, Ok, decimal, sym, refl, ap, ◌∙◌, subst, append_assoc, arith}
+use Rattle.std.proofs.Common.{◌≡◌, ℕ, List, [], ◌∷◌, ◌++◌, map, take, drop, Ok, Result, decimal, sym, refl, ap, ◌∙◌, subst, append_assoc, arith}
 use Rattle.std.proofs.Math.Seq.{take-append_seam}
 use Rattle.std.specs.List.{flat_map, AllByRecursion}
 use Rattle.text.specs.Fields.{fielded, Short, Lacks}
 use Rattle.text.specs.Lines.{Starts}
-use Rattle.text.specs.Reading.{Ending, stated, Ends}
 use Rattle.text.proofs.Cutting.{decimal_lacks}
 use Rattle.text.proofs.Chaining.{fielded_lacks}
 use Rattle.book.specs.declared.rules.RightSide.{RightSide}
 use Rattle.book.specs.declared.rules.RightSide.TheVariants.{Cut, Pair}
 use Rattle.book.specs.declared.rules.Rule.{Rule}
 use Rattle.book.specs.declared.books.Book.{Book}
+use Rattle.refusal.specs.declared.Fault.{Fault}
 use Rattle.book.specs.Ranges.{Lawful}
-use Rattle.book.specs.Statements.{parts, rule, written_rule, rule_text, ShortSide, Stated, book_form}
+use Rattle.book.specs.Statements.{parts, rule, written_rule, rule_text, ShortSide, book_form}
 use Rattle.text.specs.Reading.{Listed}
-use Rattle.book.specs.Texts.{without_notes, Tells, Agrees}
+use Rattle.book.specs.Texts.{without_notes, Tells, Outcome}
 use Rattle.book.specs.Writing.{ended_line, written, book_text, Wrote, ReadBack}
 use Rattle.book.proofs.Telling.{tells_accepted}
 use Rattle.book.proofs.Putting.{Fits, all_fit, written_short}
@@ -56,18 +56,8 @@ written_tells k rules h =
 pub front : (text before after : List ℕ) (n : ℕ) → Wrote text before (Ok n) after → take n after ≡ text
 front text before after n w = rw (w.1, w.0) (take-append_seam text _)
 
-module _ (b : Book) (tells : Tells (book_text b) b) where
-  -- what the text is read as, if it is read
-  pub read_same : (c : Book) → ((e : Ending Stated) → Ends book_form (book_text b) e → Agrees (book_text b) e (Ok c)) → c ≡ b
-  read_same c only =
-      let sum = only (stated (record { parts = Some b.parts; rules = b.rules })) (tells_accepted _ b tells) in
-      let e = ap (λ (d : Stated). d.parts) sum in
-      let k : c.parts ≡ b.parts = cc in
-      let us : c.rules ≡ b.rules = sym (ap (λ (d : Stated). d.rules) sum) in
-      (λ i. record { parts = k i; rules = us i })
-
-  -- it is written, and read again
-  pub again_same : (c : Book) (n : ℕ) (before after : List ℕ) → Wrote (book_text b) before (Ok n) after → ((e : Ending Stated) → Ends book_form (take n after) e → Agrees (take n after) e (Ok c)) → ReadBack b before (Ok c) after
-  again_same c n before after w only =
-      let only' : (e : Ending Stated) → Ends book_form (book_text b) e → Agrees (book_text b) e (Ok c) = subst (λ t. (e : Ending Stated) → Ends book_form t e → Agrees t e (Ok c)) (front (book_text b) before after n w) only in
-      (read_same c only', tells, w.1 ∙ ap (λ m. book_text b ++ drop m before) w.0)
+-- the book is written, and read again
+pub again_same : (b : Book) → Tells (book_text b) b → (c : Book) (n : ℕ) (before after : List ℕ) → Wrote (book_text b) before (Ok n) after → ((other : Result Book Fault) → Outcome (take n after) other → other ≡ Ok c) → ReadBack b before (Ok c) after
+again_same b tells c n before after w only =
+    let e : ◌≡◌ {A = Result Book Fault} (Ok b) (Ok c) = only (Ok b) (subst (λ t. Outcome t (Ok b)) (sym (front (book_text b) before after n w)) (tells_accepted _ b tells)) in
+    (cc, tells, w.1 ∙ ap (λ m. book_text b ++ drop m before) w.0)

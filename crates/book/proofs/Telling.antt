@@ -5,9 +5,9 @@ use Rattle.std.proofs.lemmas.List.{length_push}
 use Rattle.std.proofs.ByRecursion.{All-from_get_or}
 use Rattle.refusal.specs.declared.Fault.{Fault}
 use Rattle.refusal.specs.declared.Source.TheVariants as source
-use Rattle.text.specs.Reading.{Reads, Listed, Accepted, stated}
+use Rattle.text.specs.Reading.{Reads, Listed, Accepted}
 use Rattle.text.proofs.Standing.{listed}
-use Rattle.text.proofs.Answering.{only_ending}
+use Rattle.text.proofs.Answering.{one_answer}
 use Rattle.book.specs.declared.rules.RightSide.TheVariants.{Cut}
 use Rattle.book.specs.declared.rules.Rule.{Rule}
 use Rattle.book.specs.declared.books.Book.{Book}
@@ -93,7 +93,20 @@ tells_accepted text b t = record {
   passed = (t.lawful.some_rules, tt);
 }
 
+-- two books of which the same is stated are the same
+same_stated : (b c : Book) → stated_in b ≡ stated_in c → b ≡ c
+same_stated b c e =
+    let k' = ap (λ (d : Stated). d.parts) e in
+    let k : b.parts ≡ c.parts = cc in
+    let us : b.rules ≡ c.rules = ap (λ (d : Stated). d.rules) e in
+    (λ i. record { parts = k i; rules = us i })
+
+-- a text has one outcome
+pub one_outcome : (text : List ℕ) (r q : Result Book Fault) → Outcome text r → Outcome text q → r ≡ q
+one_outcome text r q o p = one_answer book_form book_plain stated_in same_stated source.Book text r q o p
+
 pub told_by : (text : List ℕ) (r : Result Book Fault) → Outcome text r → Told text r
 told_by text (Ok b) o = accepted_tells text b.parts b.rules o
 told_by text (Err f) o = λ b t.
-    only_ending book_form book_plain stated_in source.Book text (Err f) o (stated (stated_in b)) (tells_accepted text b t)
+    let e : ◌≡◌ {A = Result Book Fault} (Ok b) (Err f) = one_outcome text (Ok b) (Err f) (tells_accepted text b t) o in
+    let z : ◌≡◌ {A = ℕ} 0 1 = cc in omega arith

@@ -1,4 +1,4 @@
--- What a book says. Assumes nothing.
+-- What a book says, and what the layers above it see of that. Assumes nothing.
 use Rattle.std.specs.Prelude.{ℕ, List}
 use Rattle.book.specs.declared.rules.Rule.{Rule}
 
@@ -6,3 +6,11 @@ use Rattle.book.specs.declared.rules.Rule.{Rule}
 pub record BookSaid : Type 0 where
   pub parts : ℕ
   pub rules : List Rule
+
+-- how many parts the boards of the planner count
+abbrev pub parts_of : BookSaid → ℕ
+parts_of b = b.parts
+
+-- the rules that runs are built up by, in the order of their numbers
+abbrev pub rules_of : BookSaid → List Rule
+rules_of b = b.rules

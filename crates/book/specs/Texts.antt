@@ -2,9 +2,8 @@
 use Rattle.std.specs.Prelude.{◌≡◌, ℕ, ◌≤◌, List, [], ◌∷◌, map, length, Some, Ok, Err, Result}
 use Rattle.refusal.specs.declared.Source.TheVariants as source
 use Rattle.refusal.specs.declared.Fault.{Fault}
-use Rattle.text.specs.Reading.{Listed, Ending}
+use Rattle.text.specs.Reading.{Listed}
 use Rattle.text.specs.Readings.{ReadAs}
-use Rattle.text.specs.Readings as readings
 use Rattle.book.specs.declared.books.Book.{Book}
 use Rattle.book.specs.Ranges.{Lawful}
 use Rattle.book.specs.Statements.{Said, parts, rule, note, Stated, book_form}
@@ -31,10 +30,6 @@ stated_in b = record { parts = Some b.parts; rules = b.rules }
 -- r is the book that the text states, or the first refusal with its line
 abbrev pub Outcome : List ℕ → Result Book Fault → Type 0
 Outcome text r = ReadAs book_form stated_in source.Book text r
-
--- r is that ending
-abbrev pub Agrees : List ℕ → Ending Stated → Result Book Fault → Type 0
-Agrees text e r = readings.Agrees book_form stated_in source.Book text e r
 
 -- an accepted text tells the book that was read; a refused one tells none
 abbrev pub Told : List ℕ → Result Book Fault → Type 0

@@ -1,5 +1,6 @@
 // A book, whose numbers are always in range.
 ghost use Rattle.std.specs.Prelude.{◌≡◌};
+ghost use Rattle.book.specs.BookSaid.{parts_of, rules_of};
 ghost use Rattle.book.specs.Ranges.{Lawful};
 
 use crate::rules::Rule;
@@ -26,16 +27,16 @@ impl Model for Book {
 
 impl Book {
     pub fn parts(&self) -> u8
-        ensures parts { result ≡ self.now.parts }
-        ensures lawful { Lawful self.now.parts self.now.rules }
+        ensures parts { result ≡ parts_of self.now }
+        ensures lawful { Lawful (parts_of self.now) (rules_of self.now) }
     {
         self.parts
     }
 
     // The rules in the order of their numbers: rule number 1 stands at index 0.
     pub fn rules(&self) -> &[Rule]
-        ensures rules { result.now ≡ self.now.rules }
-        ensures lawful { Lawful self.now.parts self.now.rules }
+        ensures rules { result.now ≡ rules_of self.now }
+        ensures lawful { Lawful (parts_of self.now) (rules_of self.now) }
     {
         self.rules.as_slice()
     }

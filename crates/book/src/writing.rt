@@ -22,19 +22,19 @@ fn put_rule(page: &mut Page, rule: Rule)
     match side {
         RightSide::Cut { stroke } => {
             page.push(b'c');
-            page.field(rule.part as u32);
+            page.field(rule.part as u64);
             page.push(b' ');
             page.push(stroke);
         }
         RightSide::Pair { left, right } => {
             page.push(b'p');
-            page.field(rule.part as u32);
-            page.field(left as u32);
-            page.field(right as u32);
+            page.field(rule.part as u64);
+            page.field(left as u64);
+            page.field(right as u64);
         }
     }
-    page.field(rule.time);
-    page.field(rule.grade as u32);
+    page.field(rule.time as u64);
+    page.field(rule.grade as u64);
     page.push(b'\n');
 }
 
@@ -45,7 +45,7 @@ pub fn page_of(book: &Book) -> Page
 {
     let mut page = Page::new();
     page.push(b'k');
-    page.field(book.parts() as u32);
+    page.field(book.parts() as u64);
     page.push(b'\n');
     for rule in book.rules() {
         put_rule(&mut page, *rule);

@@ -21,5 +21,5 @@ same_refusal k run parts (inr few) = let e = room (length run) k few parts in gr
 
 -- so it is never refused for want of room
 pub roomy : (text : List ℕ) (read : Result Book Fault) (run : List ℕ) → Told text read → answered read run 4352 ≡ entry_answer read run
-roomy text (Ok b) run told = ap (λ r. packed (priced time_ops b.rules r run)) (same_refusal b.parts run told.lawful.few_parts (cases_lt 16 (length run)))
+roomy text (Ok b) run told = ap (λ r. packed (priced time_ops b r run)) (same_refusal b.parts run told.lawful.few_parts (cases_lt 16 (length run)))
 roomy text (Err f) run told = refl

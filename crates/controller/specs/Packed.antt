@@ -8,6 +8,7 @@ use Rattle.refusal.specs.declared.Refusal.TheVariants.{NotAStroke, BadLength, To
 use Rattle.refusal.specs.declared.Fault.{Fault}
 use Rattle.refusal.specs.Numbers.{number_of}
 use Rattle.book.specs.declared.books.Book.{Book}
+use Rattle.book.specs.BookSaid.{parts_of}
 use Rattle.book.specs.Texts.{Outcome, Told}
 use Rattle.sheet.specs.Pairs.{is_stroke}
 use Rattle.planner.specs.Outcomes.{priced, price_refused}
@@ -24,7 +25,7 @@ entry_refused k run room = if nat_lt 16 (length run) then Some TooManyPlaces els
 -- what is answered of a book as it was read: the refusal of its text, or what the run costs by it, or why that is refused
 abbrev pub answered : Result Book Fault → List ℕ → ℕ → ℕ
 answered (Err f) run room = packed (Err f.refusal)
-answered (Ok b) run room = packed (priced time_ops b.rules (entry_refused b.parts run room) run)
+answered (Ok b) run room = packed (priced time_ops b (entry_refused (parts_of b) run room) run)
 
 -- the same checks where the board has room
 abbrev pub run_refused : List ℕ → Option Refusal
@@ -34,7 +35,7 @@ run_refused run =
 -- what is answered then
 abbrev pub entry_answer : Result Book Fault → List ℕ → ℕ
 entry_answer (Err f) run = packed (Err f.refusal)
-entry_answer (Ok b) run = packed (priced time_ops b.rules (run_refused run) run)
+entry_answer (Ok b) run = packed (priced time_ops b (run_refused run) run)
 
 -- the answer is of the book that the text tells, or of the refusal of the text, as the reader finds it
 abbrev pub EntryAnswers : List ℕ → List ℕ → ℕ → Type 0

@@ -2,6 +2,7 @@
 #![tactic(auto)]
 
 ghost use Rattle.std.specs.Prelude.{◌≡◌, IsSome, MatchResult, length};
+ghost use Rattle.book.specs.BookSaid.{parts_of};
 ghost use Rattle.controller.specs.Packed.{EntryAnswers, answered, entry_refused, packed};
 
 use book::Book;
@@ -26,7 +27,7 @@ pub extern "C" fn waichuro_price(book: &[u8], run: &[u8]) -> u64
 // refusal leaves it as it was.
 pub fn answer(read: Result<Book, Fault>, run: &[u8], inside: &mut [Time]) -> u64
     ensures answer { result ≡ answered read run.now (length inside.old) }
-    ensures board { MatchResult read (λ b. IsSome (entry_refused b.parts run.now (length inside.old)) → inside.new ≡ inside.old) (λ _. inside.new ≡ inside.old) }
+    ensures board { MatchResult read (λ b. IsSome (entry_refused (parts_of b) run.now (length inside.old)) → inside.new ≡ inside.old) (λ _. inside.new ≡ inside.old) }
 {
     match read {
         Ok(_) if 16 < run.len() => pack(Err(Refusal::TooManyPlaces)),

@@ -5,6 +5,7 @@ use Rattle.book.specs.declared.rules.RightSide.{RightSide}
 use Rattle.book.specs.declared.rules.RightSide.TheVariants.{Cut, Pair}
 use Rattle.book.specs.declared.rules.Rule.{Rule}
 use Rattle.book.specs.declared.books.Book.{Book}
+use Rattle.book.specs.BookSaid.{rules_of}
 
 -- a tree of rules, each given by its index in the book: rule number 1 has the index 0. Two rules with the same part and
 -- right side are both rules, and make different trees
@@ -70,4 +71,4 @@ prices o rules r start len = price_of o (slice_get rules r)
 
 -- what the uses of a book's rules weigh: the prices that stand in them
 abbrev pub weights : {S : Type 0} → Ops S → Book → Weights S
-weights o book = prices o book.rules
+weights o book = prices o (rules_of book)

@@ -3,8 +3,10 @@ use Rattle.std.specs.Prelude.{◌≡◌, ℕ, ◌+◌, List, [], length, replica
 use Rattle.scale.specs.Ops.{Ops}
 use Rattle.refusal.specs.declared.Refusal.{Refusal}
 use Rattle.book.specs.declared.rules.Rule.{Rule}
+use Rattle.book.specs.declared.books.Book.{Book}
+use Rattle.book.specs.BookSaid.{rules_of, parts_of}
 use Rattle.sheet.specs.Pairs.{Pairs}
-use Rattle.derivations.specs.Trees.{Weights, prices}
+use Rattle.derivations.specs.Trees.{Weights, weights}
 use Rattle.derivations.specs.Runs.{NoneWithin}
 use Rattle.planner.specs.Outcomes.{Answered, PrunedTo, QuotedAs, prune_refused, quote_refused}
 use Rattle.planner.specs.declared.pruning.Pruned.{Pruned as Pruning}
@@ -24,9 +26,9 @@ pub record Setting (S : Type 0) : Type 0 where
   pub number : ℕ
 
 -- that of a book, with the prices of its own rules
-abbrev pub book_setting : {S : Type 0} → Ops S → List Rule → ℕ → ℕ → ℕ → Setting S
-book_setting o rules parts places number =
-    record { rules = rules; parts = parts; weights = prices o rules; places = places; number = number }
+abbrev pub book_setting : {S : Type 0} → Ops S → Book → ℕ → ℕ → Setting S
+book_setting o book places number =
+    record { rules = rules_of book; parts = parts_of book; weights = weights o book; places = places; number = number }
 
 -- what the caller of one event lends to it: how many entries each board has, and what the run holds
 pub record Lent : Type 0 where

@@ -1,5 +1,6 @@
 // Guesses of callers who lend a card: afterwards it holds what it held, byte by byte.
 ghost use Rattle.std.specs.Prelude.{◌≡◌, IsSome, OnErr, length};
+ghost use Rattle.book.specs.BookSaid.{parts_of};
 ghost use Rattle.sheet.specs.Cards.{card_places, card_shown};
 ghost use Rattle.sheet.specs.Strikes.{struck};
 ghost use Rattle.planner.specs.Outcomes.{quote_refused};
@@ -23,9 +24,9 @@ pub fn quote_without_card<S: Scale>(
     choices: &mut [u32],
     run: &mut [u8],
 ) -> Result<S, Refusal>
-    ensures answer { QuoteEndsWithout S.ops (book_setting S.ops book.now.rules book.now.parts (card_places card.old) number) (card_shown card.old) place stroke limit (lent_quote (length inside.old) (length choices.old) run.old) (quote_answer run.new result) }
+    ensures answer { QuoteEndsWithout S.ops (book_setting S.ops book.now (card_places card.old) number) (card_shown card.old) place stroke limit (lent_quote (length inside.old) (length choices.old) run.old) (quote_answer run.new result) }
     ensures run { OnErr result (run.new ≡ run.old) }
-    ensures boards { IsSome (refused_before (struck (card_places card.old) (card_shown card.old) place stroke) (quote_refused S.ops (card_places card.old) book.now.parts limit (length inside.old) (length choices.old) (length run.old))) → (inside.new ≡ inside.old) × (choices.new ≡ choices.old) }
+    ensures boards { IsSome (refused_before (struck (card_places card.old) (card_shown card.old) place stroke) (quote_refused S.ops (card_places card.old) (parts_of book.now) limit (length inside.old) (length choices.old) (length run.old))) → (inside.new ≡ inside.old) × (choices.new ≡ choices.old) }
     ensures memory { card.new ≡ card.old }
 {
     quote_without_lent(

@@ -1,5 +1,6 @@
 // Guesses: what a quote would answer if one pair more were closed.
 ghost use Rattle.std.specs.Prelude.{◌≡◌, IsSome, OnErr, length};
+ghost use Rattle.book.specs.BookSaid.{parts_of};
 ghost use Rattle.sheet.specs.Strikes.{struck};
 ghost use Rattle.planner.specs.Outcomes.{quote_refused};
 ghost use Rattle.events.specs.States.{born};
@@ -27,9 +28,9 @@ pub fn quote_without<S: Scale, H: Sheet>(
     choices: &mut [u32],
     run: &mut [u8],
 ) -> Result<S, Refusal>
-    ensures answer { QuoteEndsWithout S.ops (book_setting S.ops book.now.rules book.now.parts (H.places sheet.old) number) (H.shown sheet.old) place stroke limit (lent_quote (length inside.old) (length choices.old) run.old) (quote_answer run.new result) }
+    ensures answer { QuoteEndsWithout S.ops (book_setting S.ops book.now (H.places sheet.old) number) (H.shown sheet.old) place stroke limit (lent_quote (length inside.old) (length choices.old) run.old) (quote_answer run.new result) }
     ensures run { OnErr result (run.new ≡ run.old) }
-    ensures boards { IsSome (refused_before (struck (H.places sheet.old) (H.shown sheet.old) place stroke) (quote_refused S.ops (H.places sheet.old) book.now.parts limit (length inside.old) (length choices.old) (length run.old))) → (inside.new ≡ inside.old) × (choices.new ≡ choices.old) }
+    ensures boards { IsSome (refused_before (struck (H.places sheet.old) (H.shown sheet.old) place stroke) (quote_refused S.ops (H.places sheet.old) (parts_of book.now) limit (length inside.old) (length choices.old) (length run.old))) → (inside.new ≡ inside.old) × (choices.new ≡ choices.old) }
     ensures pairs { H.shown sheet.new ≡ H.shown sheet.old }
     ensures memory { H.kept sheet.old sheet.new }
 {
@@ -60,7 +61,7 @@ fn guess<S: Scale, H: Sheet>(
     requires { state H.places H.shown marked.old ≡ born (H.shown marked.old.below.now) }
     ensures answer { QuoteEndsWithout S.ops (setting S.ops H.places book.now marked.old) (H.shown marked.old.below.now) place stroke limit (lent_quote (length inside.old) (length choices.old) run.old) (quote_answer run.new result) }
     ensures run { OnErr result (run.new ≡ run.old) }
-    ensures boards { IsSome (refused_before (struck (H.places marked.old.below.now) (H.shown marked.old.below.now) place stroke) (quote_refused S.ops (H.places marked.old.below.now) book.now.parts limit (length inside.old) (length choices.old) (length run.old))) → (inside.new ≡ inside.old) × (choices.new ≡ choices.old) }
+    ensures boards { IsSome (refused_before (struck (H.places marked.old.below.now) (H.shown marked.old.below.now) place stroke) (quote_refused S.ops (H.places marked.old.below.now) (parts_of book.now) limit (length inside.old) (length choices.old) (length run.old))) → (inside.new ≡ inside.old) × (choices.new ≡ choices.old) }
     ensures state { state H.places H.shown marked.new ≡ state H.places H.shown marked.old }
     ensures sheet { SameSheet H.kept marked.old marked.new }
 {
@@ -83,7 +84,7 @@ fn strike_and_quote<S: Scale, H: Sheet>(
 ) -> Result<S, Refusal>
     ensures answer { QuoteEndsWithout S.ops (setting S.ops H.places book.now marked.old) (H.shown marked.old.below.now) place stroke limit (lent_quote (length inside.old) (length choices.old) run.old) (quote_answer run.new result) }
     ensures run { OnErr result (run.new ≡ run.old) }
-    ensures boards { IsSome (refused_before (struck (H.places marked.old.below.now) (H.shown marked.old.below.now) place stroke) (quote_refused S.ops (H.places marked.old.below.now) book.now.parts limit (length inside.old) (length choices.old) (length run.old))) → (inside.new ≡ inside.old) × (choices.new ≡ choices.old) }
+    ensures boards { IsSome (refused_before (struck (H.places marked.old.below.now) (H.shown marked.old.below.now) place stroke) (quote_refused S.ops (H.places marked.old.below.now) (parts_of book.now) limit (length inside.old) (length choices.old) (length run.old))) → (inside.new ≡ inside.old) × (choices.new ≡ choices.old) }
     ensures struck { state H.places H.shown marked.new ≡ state_struck (H.places marked.old.below.now) (state H.places H.shown marked.old) place stroke }
     ensures sheet { SameSheet H.kept marked.old marked.new }
 {

@@ -1,5 +1,6 @@
 // Guesses of callers who lend masks: afterwards they hold what they held, number by number.
 ghost use Rattle.std.specs.Prelude.{◌≡◌, IsSome, OnErr, length};
+ghost use Rattle.book.specs.BookSaid.{parts_of};
 ghost use Rattle.sheet.specs.Masks.{mask_places, mask_shown};
 ghost use Rattle.sheet.specs.Strikes.{struck};
 ghost use Rattle.planner.specs.Outcomes.{quote_refused};
@@ -23,9 +24,9 @@ pub fn quote_without_masks<S: Scale>(
     choices: &mut [u32],
     run: &mut [u8],
 ) -> Result<S, Refusal>
-    ensures answer { QuoteEndsWithout S.ops (book_setting S.ops book.now.rules book.now.parts (mask_places masks.old) number) (mask_shown masks.old) place stroke limit (lent_quote (length inside.old) (length choices.old) run.old) (quote_answer run.new result) }
+    ensures answer { QuoteEndsWithout S.ops (book_setting S.ops book.now (mask_places masks.old) number) (mask_shown masks.old) place stroke limit (lent_quote (length inside.old) (length choices.old) run.old) (quote_answer run.new result) }
     ensures run { OnErr result (run.new ≡ run.old) }
-    ensures boards { IsSome (refused_before (struck (mask_places masks.old) (mask_shown masks.old) place stroke) (quote_refused S.ops (mask_places masks.old) book.now.parts limit (length inside.old) (length choices.old) (length run.old))) → (inside.new ≡ inside.old) × (choices.new ≡ choices.old) }
+    ensures boards { IsSome (refused_before (struck (mask_places masks.old) (mask_shown masks.old) place stroke) (quote_refused S.ops (mask_places masks.old) (parts_of book.now) limit (length inside.old) (length choices.old) (length run.old))) → (inside.new ≡ inside.old) × (choices.new ≡ choices.old) }
     ensures memory { masks.new ≡ masks.old }
 {
     quote_without_lent(

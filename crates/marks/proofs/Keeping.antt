@@ -27,4 +27,4 @@ module _ {H : Type 0} {places : H → ℕ} {shown : H → Pairs} {kept : H → H
   same_places = laws.lasts s.below.now t.below.now same.memory
 
   pub same_setting : {S : Type 0} (o : Ops S) (book : Book) → setting o places book t ≡ setting o places book s
-  same_setting o book = ap₂ (book_setting o book.rules book.parts) same_places same.number
+  same_setting o book = ap₂ (book_setting o book) same_places same.number

@@ -30,4 +30,4 @@ pub record SameSheet {H : Type 0} (kept : H → H → Type 0) (old new : Marked 
 
 -- what stays the same through its life, with a book and the prices of that book
 abbrev pub setting : {S H : Type 0} → Ops S → (H → ℕ) → Book → Marked H → Setting S
-setting o places book m = book_setting o book.rules book.parts (places m.below.now) (sheet_number m)
+setting o places book m = book_setting o book (places m.below.now) (sheet_number m)

@@ -1,5 +1,6 @@
 // The calls that a marked sheet hands to the sheet below: they touch no mark.
 ghost use Rattle.std.specs.Prelude.{◌≡◌, List, OnErr, IsSome, Result, length};
+ghost use Rattle.book.specs.BookSaid.{parts_of};
 ghost use Rattle.refusal.specs.declared.Refusal.{Refusal};
 ghost use Rattle.planner.specs.Outcomes.{prune_refused, quote_refused};
 ghost use Rattle.sheet.specs.Pairs.{Pairs};
@@ -44,7 +45,7 @@ impl<'a, H: Sheet> Marked<'a, H> {
         ensures refused { OnErr result (self.new ≡ self.old) }
         ensures marks { self.new.marks ≡ self.old.marks }
         ensures sheet { SameSheet H.kept self.old self.new }
-        ensures boards { IsSome (prune_refused S.ops (H.places self.old.below.now) book.now.parts limit (length inside.old) (length outside.old)) → (inside.new ≡ inside.old) × (outside.new ≡ outside.old) }
+        ensures boards { IsSome (prune_refused S.ops (H.places self.old.below.now) (parts_of book.now) limit (length inside.old) (length outside.old)) → (inside.new ≡ inside.old) × (outside.new ≡ outside.old) }
     {
         planner::prune(self.below, book, limit, inside, outside)
     }
@@ -62,7 +63,7 @@ impl<'a, H: Sheet> Marked<'a, H> {
         ensures step { Step S.ops (setting S.ops H.places book.now self.now) (state H.places H.shown self.now) (Quote limit) (lent_quote (length inside.old) (length choices.old) run.old) (quote_answer run.new result) (state H.places H.shown self.now) }
         ensures life { (birth : Pairs) (events : List (Event S × Lent)) (answers : List (Result (Accepted S) Refusal)) (g : Ledger S) → HasLived S.ops (setting S.ops H.places book.now self.now) birth events answers (state H.places H.shown self.now) g → AsAtBirth S.ops (setting S.ops H.places book.now self.now) birth g (Quote limit) (lent_quote (length inside.old) (length choices.old) run.old) (quote_answer run.new result) }
         ensures run { OnErr result (run.new ≡ run.old) }
-        ensures boards { IsSome (quote_refused S.ops (H.places self.now.below.now) book.now.parts limit (length inside.old) (length choices.old) (length run.old)) → (inside.new ≡ inside.old) × (choices.new ≡ choices.old) }
+        ensures boards { IsSome (quote_refused S.ops (H.places self.now.below.now) (parts_of book.now) limit (length inside.old) (length choices.old) (length run.old)) → (inside.new ≡ inside.old) × (choices.new ≡ choices.old) }
     {
         planner::quote(self.below, book, limit, inside, choices, run)
     }

@@ -28,8 +28,8 @@ pub fn replay<S: Scale, H: Sheet>(
     answers: &mut [Answer<S>],
 ) -> Result<(), Refusal>
     ensures answer { result ≡ replay_refused (length events.now) (length answers.old) }
-    ensures life { OnOk result (Replayed S.ops (book_setting S.ops book.now.rules book.now.parts (H.places sheet.old) number) (H.shown sheet.old) (each_lent (lent_all (length inside.old) (length outside.old) (length choices.old)) events.now) (take (length events.now) answers.new) (H.shown sheet.new)) }
-    ensures quotes { OnOk result (QuotesAsAtBirth S.ops (book_setting S.ops book.now.rules book.now.parts (H.places sheet.old) number) (H.shown sheet.old) ledger_at_birth (each_lent (lent_all (length inside.old) (length outside.old) (length choices.old)) events.now) (take (length events.now) answers.new)) }
+    ensures life { OnOk result (Replayed S.ops (book_setting S.ops book.now (H.places sheet.old) number) (H.shown sheet.old) (each_lent (lent_all (length inside.old) (length outside.old) (length choices.old)) events.now) (take (length events.now) answers.new) (H.shown sheet.new)) }
+    ensures quotes { OnOk result (QuotesAsAtBirth S.ops (book_setting S.ops book.now (H.places sheet.old) number) (H.shown sheet.old) ledger_at_birth (each_lent (lent_all (length inside.old) (length outside.old) (length choices.old)) events.now) (take (length events.now) answers.new)) }
     ensures rest { drop (length events.now) answers.new ≡ drop (length events.now) answers.old }
     ensures memory { H.kept sheet.old sheet.new }
     ensures refused { OnErr result ((sheet.new ≡ sheet.old) × (answers.new ≡ answers.old) × (inside.new ≡ inside.old) × (outside.new ≡ outside.old) × (choices.new ≡ choices.old)) }

@@ -5,8 +5,10 @@ use Rattle.scale.specs.Ops.{Ops}
 use Rattle.refusal.specs.declared.Refusal.{Refusal}
 use Rattle.refusal.specs.declared.Refusal.TheVariants.{NotAStroke, BadLength, LimitBarred, BoardTooShort, LentTooShort, NoRun}
 use Rattle.book.specs.declared.rules.Rule.{Rule}
+use Rattle.book.specs.declared.books.Book.{Book}
+use Rattle.book.specs.BookSaid.{rules_of}
 use Rattle.sheet.specs.Pairs.{Pairs, is_stroke}
-use Rattle.derivations.specs.Trees.{Tree, strokes, Weights, prices}
+use Rattle.derivations.specs.Trees.{Tree, strokes, Weights, weights}
 use Rattle.derivations.specs.Costs.{cost, least_cost}
 use Rattle.derivations.specs.Runs.{IsOpen, Supported, Cheapest}
 use Rattle.derivations.specs.Ties.{Chosen}
@@ -35,10 +37,10 @@ price_refused k run room =
 abbrev pub unless_barred : {S : Type 0} → Ops S → S → Result S Refusal
 unless_barred o c = if o.le o.barred c then Err NoRun else Ok c
 
--- what a price answers: the cost of the run, where no test fails and the run is lawful
-abbrev pub priced : {S : Type 0} → Ops S → List Rule → Option Refusal → List ℕ → Result S Refusal
-priced o rules (Some e) run = Err e
-priced o rules None run = unless_barred o (cost o (prices o rules) rules run)
+-- what a price answers: the cost of the run by the book, where no test fails and the run is lawful
+abbrev pub priced : {S : Type 0} → Ops S → Book → Option Refusal → List ℕ → Result S Refusal
+priced o book (Some e) run = Err e
+priced o book None run = unless_barred o (cost o (weights o book) (rules_of book) run)
 
 -- the first test that a prune fails, of a sheet of n places, with a book of k parts and boards with `room`
 abbrev pub prune_refused : {S : Type 0} → Ops S → ℕ → ℕ → S → ℕ → ℕ → Option Refusal

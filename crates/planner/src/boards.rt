@@ -1,5 +1,6 @@
 // Boards: working tables with an entry for each span and each part.
 ghost use Rattle.std.specs.Prelude.{◌≡◌, ◌+◌, ◌-◌, ◌*◌, ◌<◌, ◌≤◌, length, slice_index_or, slice_set};
+ghost use Rattle.book.specs.BookSaid.{parts_of};
 ghost use Rattle.scale.specs.Ops.{lesser_of};
 ghost use Rattle.planner.specs.Boards.{board_entries, entry_index, entry_of};
 
@@ -18,7 +19,7 @@ pub(crate) fn entries(places: usize, parts: u8) -> usize
 
 // How many entries a board has for a sheet and a book.
 pub fn board_entries<H: Sheet>(sheet: &H, book: &Book) -> usize
-    ensures { result ≡ board_entries (H.places sheet.now) book.now.parts }
+    ensures { result ≡ board_entries (H.places sheet.now) (parts_of book.now) }
 {
     entries(sheet.length(), book.parts())
 }

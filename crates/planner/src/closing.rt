@@ -1,5 +1,6 @@
 // Closing the strokes that no run within a limit has.
 ghost use Rattle.std.specs.Prelude.{All, ◌≡◌, ◌+◌, ◌-◌, ◌<◌, ◌≤◌, ◌↔◌, ℕ, Some, false, true, not, ◌&&◌, IsTrue, length, slice_index_or};
+ghost use Rattle.book.specs.BookSaid.{rules_of, parts_of};
 ghost use Rattle.book.specs.Ranges.{InRange};
 ghost use Rattle.book.specs.declared.rules.RightSide.TheVariants.{Cut};
 ghost use Rattle.sheet.specs.Pairs.{Pairs};
@@ -33,8 +34,8 @@ impl<'a, S: Scale, W: Prices<S>> Support<'a, S, W> {
         outside: &'a [S],
         limit: S,
     ) -> Support<'a, S, W>
-        ensures rules { result.rules.now ≡ book.now.rules }
-        ensures parts { result.parts ≡ book.now.parts }
+        ensures rules { result.rules.now ≡ rules_of book.now }
+        ensures parts { result.parts ≡ parts_of book.now }
         ensures prices { result.prices.now ≡ prices.now }
         ensures outside { result.outside.now ≡ outside.now }
         ensures limit { result.limit ≡ limit }

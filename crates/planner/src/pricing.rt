@@ -1,6 +1,7 @@
 // Pricing: what a given run costs.
 ghost use Rattle.std.specs.Prelude.{◌≡◌, ◌↔◌, ◌≢◌, ℕ, false, true, None, IfOk, IsErr, IsSome, length};
 ghost use Rattle.std.specs.List.{list_all};
+ghost use Rattle.book.specs.BookSaid.{rules_of, parts_of};
 ghost use Rattle.sheet.specs.Pairs.{is_stroke};
 ghost use Rattle.derivations.specs.Costs.{Costs, cost, has};
 ghost use Rattle.derivations.specs.Trees.{weights};
@@ -17,10 +18,10 @@ use sheet::{MaskSheet, Sheet};
 // What the run costs. Refused, in this order, for a run of no place or of more than 24, for a byte that is no stroke, for a board
 // that is too short, and for a run that is not lawful. What the board holds after an answer, or after the last of these, is free.
 pub fn price<S: Scale>(book: &Book, run: &[u8], inside: &mut [S]) -> Result<S, Refusal>
-    ensures answer { result ≡ priced S.ops book.now.rules (price_refused book.now.parts run.now (length inside.old)) run.now }
-    ensures least { IfOk result (λ c. Costs S.ops (weights S.ops book.now) book.now.rules run.now c × (c ≢ S.ops.barred)) }
-    ensures refused { price_refused book.now.parts run.now (length inside.old) ≡ None → (IsErr result ↔ Costs S.ops (weights S.ops book.now) book.now.rules run.now S.ops.barred) }
-    ensures board { IsSome (price_refused book.now.parts run.now (length inside.old)) → inside.new ≡ inside.old }
+    ensures answer { result ≡ priced S.ops book.now (price_refused (parts_of book.now) run.now (length inside.old)) run.now }
+    ensures least { IfOk result (λ c. Costs S.ops (weights S.ops book.now) (rules_of book.now) run.now c × (c ≢ S.ops.barred)) }
+    ensures refused { price_refused (parts_of book.now) run.now (length inside.old) ≡ None → (IsErr result ↔ Costs S.ops (weights S.ops book.now) (rules_of book.now) run.now S.ops.barred) }
+    ensures board { IsSome (price_refused (parts_of book.now) run.now (length inside.old)) → inside.new ≡ inside.old }
 {
     check(run, book.parts(), inside.len())?;
     let cost = cost_of(book, run, inside);
@@ -55,8 +56,8 @@ fn all_strokes(run: &[u8]) -> bool
 
 // What the run costs: the least cost over the sheet on which just its strokes are open.
 fn cost_of<S: Scale>(book: &Book, run: &[u8], inside: &mut [S]) -> S
-    requires { price_refused book.now.parts run.now (length inside.old) ≡ None }
-    ensures { result ≡ cost S.ops (weights S.ops book.now) book.now.rules run.now }
+    requires { price_refused (parts_of book.now) run.now (length inside.old) ≡ None }
+    ensures { result ≡ cost S.ops (weights S.ops book.now) (rules_of book.now) run.now }
 {
     let mut masks = [0; 24];
     let mut sheet = MaskSheet::new(&mut masks[..run.len()]);

@@ -1,5 +1,6 @@
 // Pruning: the strokes that no run within a limit has are closed.
 ghost use Rattle.std.specs.Prelude.{◌≡◌, ◌↔◌, None, OnErr, IsErr, IsSome, length};
+ghost use Rattle.book.specs.BookSaid.{rules_of, parts_of};
 ghost use Rattle.derivations.specs.Runs.{NoneWithin};
 ghost use Rattle.derivations.specs.Trees.{weights};
 ghost use Rattle.planner.specs.Outcomes.{Answered, OnePruned, PrunedTo, prune_refused};
@@ -29,11 +30,11 @@ pub fn prune<S: Scale, H: Sheet>(
     inside: &mut [S],
     outside: &mut [S],
 ) -> Result<Pruned<S>, Refusal>
-    ensures answer { Answered (prune_refused S.ops (H.places sheet.old) book.now.parts limit (length inside.old) (length outside.old)) (λ p. PrunedTo S.ops (weights S.ops book.now) book.now.rules (H.places sheet.old) (H.shown sheet.old) limit (H.shown sheet.new) p.least p.closed) (NoneWithin S.ops (weights S.ops book.now) book.now.rules (H.places sheet.old) (H.shown sheet.old) limit) result }
-    ensures refused { prune_refused S.ops (H.places sheet.old) book.now.parts limit (length inside.old) (length outside.old) ≡ None → (IsErr result ↔ NoneWithin S.ops (weights S.ops book.now) book.now.rules (H.places sheet.old) (H.shown sheet.old) limit) }
+    ensures answer { Answered (prune_refused S.ops (H.places sheet.old) (parts_of book.now) limit (length inside.old) (length outside.old)) (λ p. PrunedTo S.ops (weights S.ops book.now) (rules_of book.now) (H.places sheet.old) (H.shown sheet.old) limit (H.shown sheet.new) p.least p.closed) (NoneWithin S.ops (weights S.ops book.now) (rules_of book.now) (H.places sheet.old) (H.shown sheet.old) limit) result }
+    ensures refused { prune_refused S.ops (H.places sheet.old) (parts_of book.now) limit (length inside.old) (length outside.old) ≡ None → (IsErr result ↔ NoneWithin S.ops (weights S.ops book.now) (rules_of book.now) (H.places sheet.old) (H.shown sheet.old) limit) }
     ensures sheet { OnErr result (sheet.new ≡ sheet.old) }
     ensures memory { H.kept sheet.old sheet.new }
-    ensures boards { IsSome (prune_refused S.ops (H.places sheet.old) book.now.parts limit (length inside.old) (length outside.old)) → (inside.new ≡ inside.old) × (outside.new ≡ outside.old) }
+    ensures boards { IsSome (prune_refused S.ops (H.places sheet.old) (parts_of book.now) limit (length inside.old) (length outside.old)) → (inside.new ≡ inside.old) × (outside.new ≡ outside.old) }
 {
     check(
         sheet.length(),

@@ -1,5 +1,6 @@
 // Quoting: the cheapest run over the open strokes of a sheet.
 ghost use Rattle.std.specs.Prelude.{◌≡◌, ◌≤◌, ◌↔◌, None, OnErr, IsErr, IsSome, length};
+ghost use Rattle.book.specs.BookSaid.{rules_of, parts_of};
 ghost use Rattle.derivations.specs.Runs.{NoneWithin};
 ghost use Rattle.derivations.specs.Trees.{weights};
 ghost use Rattle.planner.specs.Outcomes.{Answered, OneQuoted, QuotedAs, passed, quote_refused};
@@ -24,10 +25,10 @@ pub fn quote<S: Scale, H: Sheet>(
     choices: &mut [u32],
     run: &mut [u8],
 ) -> Result<S, Refusal>
-    ensures answer { Answered (quote_refused S.ops (H.places sheet.now) book.now.parts limit (length inside.old) (length choices.old) (length run.old)) (λ c. QuotedAs S.ops (weights S.ops book.now) book.now.rules (H.places sheet.now) (H.shown sheet.now) limit run.old run.new c) (NoneWithin S.ops (weights S.ops book.now) book.now.rules (H.places sheet.now) (H.shown sheet.now) limit) result }
-    ensures refused { quote_refused S.ops (H.places sheet.now) book.now.parts limit (length inside.old) (length choices.old) (length run.old) ≡ None → (IsErr result ↔ NoneWithin S.ops (weights S.ops book.now) book.now.rules (H.places sheet.now) (H.shown sheet.now) limit) }
+    ensures answer { Answered (quote_refused S.ops (H.places sheet.now) (parts_of book.now) limit (length inside.old) (length choices.old) (length run.old)) (λ c. QuotedAs S.ops (weights S.ops book.now) (rules_of book.now) (H.places sheet.now) (H.shown sheet.now) limit run.old run.new c) (NoneWithin S.ops (weights S.ops book.now) (rules_of book.now) (H.places sheet.now) (H.shown sheet.now) limit) result }
+    ensures refused { quote_refused S.ops (H.places sheet.now) (parts_of book.now) limit (length inside.old) (length choices.old) (length run.old) ≡ None → (IsErr result ↔ NoneWithin S.ops (weights S.ops book.now) (rules_of book.now) (H.places sheet.now) (H.shown sheet.now) limit) }
     ensures run { OnErr result (run.new ≡ run.old) }
-    ensures boards { IsSome (quote_refused S.ops (H.places sheet.now) book.now.parts limit (length inside.old) (length choices.old) (length run.old)) → (inside.new ≡ inside.old) × (choices.new ≡ choices.old) }
+    ensures boards { IsSome (quote_refused S.ops (H.places sheet.now) (parts_of book.now) limit (length inside.old) (length choices.old) (length run.old)) → (inside.new ≡ inside.old) × (choices.new ≡ choices.old) }
 {
     check_lent(
         sheet.length(),

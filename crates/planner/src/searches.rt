@@ -1,5 +1,6 @@
 // The search of a sheet for its cheapest open run, with any prices of the rules.
 ghost use Rattle.std.specs.Prelude.{◌≡◌, ◌≤◌, false, true, MatchOption, length};
+ghost use Rattle.book.specs.BookSaid.{rules_of, parts_of};
 ghost use Rattle.derivations.specs.Costs.{LeastOver};
 ghost use Rattle.derivations.specs.Runs.{NoneWithin};
 ghost use Rattle.planner.specs.Boards.{board_entries};
@@ -97,9 +98,9 @@ pub(crate) fn prune_by<S: Scale, H: Sheet, W: Prices<S>>(
 ) -> Option<Pruned<S>>
     requires some { 1 ≤ H.places sheet.old }
     requires limit { S.ops.le S.ops.barred limit ≡ false }
-    requires inside { board_entries (H.places sheet.old) book.now.parts ≤ length inside.old }
-    requires outside { board_entries (H.places sheet.old) book.now.parts ≤ length outside.old }
-    ensures answer { MatchOption result (NoneWithin S.ops (W.weights prices.now book.now.rules) book.now.rules (H.places sheet.old) (H.shown sheet.old) limit × (sheet.new ≡ sheet.old)) (λ p. PrunedTo S.ops (W.weights prices.now book.now.rules) book.now.rules (H.places sheet.old) (H.shown sheet.old) limit (H.shown sheet.new) p.least p.closed) }
+    requires inside { board_entries (H.places sheet.old) (parts_of book.now) ≤ length inside.old }
+    requires outside { board_entries (H.places sheet.old) (parts_of book.now) ≤ length outside.old }
+    ensures answer { MatchOption result (NoneWithin S.ops (W.weights prices.now (rules_of book.now)) (rules_of book.now) (H.places sheet.old) (H.shown sheet.old) limit × (sheet.new ≡ sheet.old)) (λ p. PrunedTo S.ops (W.weights prices.now (rules_of book.now)) (rules_of book.now) (H.places sheet.old) (H.shown sheet.old) limit (H.shown sheet.new) p.least p.closed) }
     ensures memory { H.kept sheet.old sheet.new }
 {
     let task = Task::new(book, prices, &*sheet);

@@ -1,5 +1,6 @@
 // What the engine works on.
 ghost use Rattle.std.specs.Prelude.{All, ◌≡◌, ◌≤◌, length};
+ghost use Rattle.book.specs.BookSaid.{rules_of, parts_of};
 ghost use Rattle.book.specs.Ranges.{InRange};
 
 use book::{Book, Rule};
@@ -32,8 +33,8 @@ impl<'a, H, W> Copy for Task<'a, H, W> {}
 
 impl<'a, H, W> Task<'a, H, W> {
     pub(crate) fn new(book: &'a Book, prices: &'a W, sheet: &'a H) -> Task<'a, H, W>
-        ensures rules { result.rules.now ≡ book.now.rules }
-        ensures parts { result.parts ≡ book.now.parts }
+        ensures rules { result.rules.now ≡ rules_of book.now }
+        ensures parts { result.parts ≡ parts_of book.now }
         ensures prices { result.prices.now ≡ prices.now }
         ensures sheet { result.sheet.now ≡ sheet.now }
     {

@@ -1,5 +1,6 @@
 // What is printed of a card that is pruned.
 ghost use Rattle.std.specs.Prelude.{◌≡◌, OnErr};
+ghost use Rattle.book.specs.BookSaid.{rules_of};
 ghost use Rattle.order.specs.Statements.{ShortLimit, InRange};
 ghost use Rattle.sheet.specs.Cards.{card_places, card_shown, CardRest};
 ghost use Rattle.printing.specs.Cards.{OneCardPrint, CardTold, CardRefused};
@@ -19,7 +20,7 @@ use std::alloc::Global;
 fn prune_rows(heap: Global, book: &Book, rows: &mut [u8], limit: Limit) -> Result<(), Failure>
     requires short { ShortLimit limit }
     requires ranged { InRange limit }
-    ensures answer { PruneEnds limit book.now.rules (card_places rows.old) (card_shown rows.old) (card_shown rows.new) result }
+    ensures answer { PruneEnds limit (rules_of book.now) (card_places rows.old) (card_shown rows.old) (card_shown rows.new) result }
     ensures rows { OnErr result (rows.new ≡ rows.old) }
     ensures rest { CardRest rows.old rows.new }
 {

@@ -1,5 +1,6 @@
 // The prune of a sheet, on boards from the allocator.
 ghost use Rattle.std.specs.Prelude.{◌≡◌, false, OnErr};
+ghost use Rattle.book.specs.BookSaid.{rules_of};
 ghost use Rattle.order.specs.Statements.{ShortLimit, InRange};
 ghost use Rattle.derivations.specs.Trees.{weights};
 ghost use Rattle.planner.specs.Outcomes.{PrunedTo};
@@ -22,7 +23,7 @@ pub(crate) fn prune_on<S: Scale, H: Sheet>(
     limit: S,
 ) -> Result<Pruned<S>, Failure>
     requires open { S.ops.le S.ops.barred limit ≡ false }
-    ensures answer { MadeOr (λ p. PrunedTo S.ops (weights S.ops book.now) book.now.rules (H.places sheet.old) (H.shown sheet.old) limit (H.shown sheet.new) p.least p.closed) (SheetRefused S.ops limit book.now.rules (H.places sheet.old) (H.shown sheet.old)) result }
+    ensures answer { MadeOr (λ p. PrunedTo S.ops (weights S.ops book.now) (rules_of book.now) (H.places sheet.old) (H.shown sheet.old) limit (H.shown sheet.new) p.least p.closed) (SheetRefused S.ops limit (rules_of book.now) (H.places sheet.old) (H.shown sheet.old)) result }
     ensures sheet { OnErr result (sheet.new ≡ sheet.old) }
     ensures memory { H.kept sheet.old sheet.new }
 {
@@ -41,7 +42,7 @@ pub(crate) fn prune_by<H: Sheet>(
 ) -> Result<(), Failure>
     requires short { ShortLimit limit }
     requires ranged { InRange limit }
-    ensures answer { PruneEnds limit book.now.rules (H.places sheet.old) (H.shown sheet.old) (H.shown sheet.new) result }
+    ensures answer { PruneEnds limit (rules_of book.now) (H.places sheet.old) (H.shown sheet.old) (H.shown sheet.new) result }
     ensures sheet { OnErr result (sheet.new ≡ sheet.old) }
     ensures memory { H.kept sheet.old sheet.new }
 {

@@ -1,5 +1,6 @@
 // What is printed of an order that is quoted.
 ghost use Rattle.std.specs.Prelude.{◌≡◌, false, IfOk, IfSome, length};
+ghost use Rattle.book.specs.BookSaid.{rules_of};
 ghost use Rattle.order.specs.Statements.{ShortLimit, InRange};
 ghost use Rattle.derivations.specs.Trees.{prices};
 ghost use Rattle.printing.specs.Bounds.{bound_of};
@@ -49,7 +50,7 @@ fn quote_on<S: Printed, H: Sheet>(
     limit: S,
 ) -> Result<Vec<u8>, Failure>
     requires open { S.ops.le S.ops.barred limit ≡ false }
-    ensures { MadeOr (λ v. QuotePrinted S.ops S.price_text limit book.now.rules (H.places sheet.old) (H.shown sheet.old) v.items) (SheetRefused S.ops limit book.now.rules (H.places sheet.old) (H.shown sheet.old)) result }
+    ensures { MadeOr (λ v. QuotePrinted S.ops S.price_text limit (rules_of book.now) (H.places sheet.old) (H.shown sheet.old) v.items) (SheetRefused S.ops limit (rules_of book.now) (H.places sheet.old) (H.shown sheet.old)) result }
 {
     let closed = prune_on(heap, book, sheet, limit)?.closed;
     let room = board_entries(sheet, book);
@@ -69,7 +70,7 @@ fn quote_by<H: Sheet>(
 ) -> Result<Vec<u8>, Failure>
     requires short { ShortLimit limit }
     requires ranged { InRange limit }
-    ensures { MadeOr (λ v. QuotePrinted (bound_of limit).ops (bound_of limit).text (bound_of limit).limit book.now.rules (H.places sheet.old) (H.shown sheet.old) v.items) (SheetRefused (bound_of limit).ops (bound_of limit).limit book.now.rules (H.places sheet.old) (H.shown sheet.old)) result }
+    ensures { MadeOr (λ v. QuotePrinted (bound_of limit).ops (bound_of limit).text (bound_of limit).limit (rules_of book.now) (H.places sheet.old) (H.shown sheet.old) v.items) (SheetRefused (bound_of limit).ops (bound_of limit).limit (rules_of book.now) (H.places sheet.old) (H.shown sheet.old)) result }
 {
     match limit {
         Limit::Time(time) => quote_on(heap, book, sheet, Time::new(time)),

@@ -1,8 +1,8 @@
--- The layer that a refusal belongs to: the sheet's for 1 to 10 and for want of memory, the reader's for
+-- The layer that a refusal belongs to: the sheet's for 1 to 10, the reader's for
 -- 11 to 13, and from 14 on that of the text which was read. Assumes nothing.
 use Rattle.std.specs.Prelude.{ℕ, List, codes}
 use Rattle.refusal.specs.declared.Refusal.{Refusal}
-use Rattle.refusal.specs.declared.Refusal.TheVariants.{NoSuchPlace, NotAStroke, NotOpen, MarksFull, WrongSlip, BadLength, LimitBarred, BoardTooShort, LentTooShort, NoRun, TextTooLong, UnknownLine, MalformedField, PartsMisplaced, OutOfRange, TooManyRules, NoRule, LimitMisplaced, TooManyPlaces, OutOfMemory}
+use Rattle.refusal.specs.declared.Refusal.TheVariants.{NoSuchPlace, NotAStroke, NotOpen, MarksFull, WrongSlip, BadLength, LimitBarred, BoardTooShort, LentTooShort, NoRun, TextTooLong, UnknownLine, MalformedField, PartsMisplaced, OutOfRange, TooManyRules, NoRule, LimitMisplaced, TooManyPlaces}
 use Rattle.refusal.specs.declared.Source.{Source}
 use Rattle.refusal.specs.declared.Source.TheVariants as source
 use Rattle.refusal.specs.declared.Layer.{Layer}
@@ -14,7 +14,7 @@ source_layer source.Sheet = layer.Sheet
 source_layer source.Book = layer.Book
 source_layer source.Order = layer.Order
 
--- the layer of a refusal: the sheet's for 1 to 10 and for want of memory, the reader's for 11 to 13, and from 14 on that of
+-- the layer of a refusal: the sheet's for 1 to 10, the reader's for 11 to 13, and from 14 on that of
 -- what was read
 abbrev pub layer_of : Refusal → Source → Layer
 layer_of NoSuchPlace s = layer.Sheet
@@ -36,7 +36,6 @@ layer_of TooManyRules s = source_layer s
 layer_of NoRule s = source_layer s
 layer_of LimitMisplaced s = source_layer s
 layer_of TooManyPlaces s = source_layer s
-layer_of OutOfMemory s = layer.Sheet
 
 -- the layer as it is printed
 abbrev pub layer_name : Layer → List ℕ

@@ -1,9 +1,9 @@
 -- The number of each refusal. Assumes nothing.
 use Rattle.std.specs.Prelude.{ℕ}
 use Rattle.refusal.specs.declared.Refusal.{Refusal}
-use Rattle.refusal.specs.declared.Refusal.TheVariants.{NoSuchPlace, NotAStroke, NotOpen, MarksFull, WrongSlip, BadLength, LimitBarred, BoardTooShort, LentTooShort, NoRun, TextTooLong, UnknownLine, MalformedField, PartsMisplaced, OutOfRange, TooManyRules, NoRule, LimitMisplaced, TooManyPlaces, OutOfMemory}
+use Rattle.refusal.specs.declared.Refusal.TheVariants.{NoSuchPlace, NotAStroke, NotOpen, MarksFull, WrongSlip, BadLength, LimitBarred, BoardTooShort, LentTooShort, NoRun, TextTooLong, UnknownLine, MalformedField, PartsMisplaced, OutOfRange, TooManyRules, NoRule, LimitMisplaced, TooManyPlaces}
 
--- 1 to 19 are the numbers of the workshop; 31 is want of memory
+-- 1 to 19 are the numbers of the workshop
 abbrev pub number_of : Refusal → ℕ
 number_of NoSuchPlace = 1
 number_of NotAStroke = 2
@@ -24,4 +24,3 @@ number_of TooManyRules = 16
 number_of NoRule = 17
 number_of LimitMisplaced = 18
 number_of TooManyPlaces = 19
-number_of OutOfMemory = 31

@@ -1,7 +1,7 @@
 -- What stands after the first lines of a text, line after line up to its ending. Assumes nothing.
 use Rattle.std.proofs.Common.{◌≡◌, ℕ, ◌+◌, ◌≤◌, List, [], ◌∷◌, ◌++◌, length, sym, subst, arith}
 use Rattle.std.proofs.lemmas.List.{length_push}
-use Rattle.text.specs.Reading.{Form, Leads, Reads, Listed}
+use Rattle.text.specs.Reading.{Form, continued, Leads, Reads, Listed}
 use Rattle.text.proofs.Cutting.{starts_shorter}
 use Rattle.text.proofs.Endings.{reads_more}
 
@@ -17,6 +17,10 @@ module _ {Said Sum : Type 0} (form : Form Said Sum) where
   pub listed : (ls : List Said) (sum : Sum) (bs : List ℕ) (whole : Sum) → Reads form ls sum bs whole [] → Listed form ls bs
   listed [] sum bs whole h = h.1
   listed (l ∷ ls) sum bs whole h = (h.1.line, h.0, h.1.starts, h.1.stated, listed ls _ _ whole h.2)
+
+-- a line that goes on from some lines does so wherever they begin
+pub leads_on : {Said Sum : Type 0} (form : Form Said Sum) (start : Sum) {sum : Sum} {bs : List ℕ} {said : Said} {after : List ℕ} → Leads form sum bs said after → Leads (continued form start) sum bs said after
+leads_on form start l = record { line = l.line; starts = l.starts; stated = l.stated; passed = l.passed }
 
 module _ {Said Sum : Type 0} {form : Form Said Sum} {text : List ℕ} {number : ℕ} {sum : Sum} {rest : List ℕ} (s : Sofar form text number sum rest) where
   -- one line more

@@ -40,6 +40,17 @@ pub record Form (Said Sum : Type 0) : Type 1 where
   -- what is tested at the end of the text
   pub last_tests : Sum → List Test
 
+-- the form of what is left of a text, where the lines before state `sum` together
+abbrev pub continued : {Said Sum : Type 0} → Form Said Sum → Sum → Form Said Sum
+continued form sum = record {
+  letters = form.letters;
+  states = form.states;
+  tests = form.tests;
+  adds = form.adds;
+  blank = sum;
+  last_tests = form.last_tests;
+}
+
 -- b is one of these
 abbrev pub OneOf : List ℕ → ℕ → Type 0
 OneOf [] b = ⊥

@@ -5,7 +5,7 @@ use Rattle.refusal.specs.declared.Refusal.{Refusal}
 use Rattle.refusal.specs.declared.Source.{Source}
 use Rattle.refusal.specs.declared.Fault.{Fault}
 use Rattle.refusal.specs.Faults.{in_text}
-use Rattle.text.specs.Reading.{Form, Passes, Fails, Ending, stated, refused, Ends}
+use Rattle.text.specs.Reading.{Form, Passes, Fails, stated, refused, Ends}
 
 module _ {Said Sum : Type 0} (form : Form Said Sum) where
   -- the lines before state sum, and those with this one more state next
@@ -29,10 +29,3 @@ module _ {Said Sum : Type 0} (form : Form Said Sum) where
     abbrev pub ReadAs : Result Whole Fault → Type 0
     ReadAs (Ok w) = Ends form text (stated (whole w))
     ReadAs (Err f) = FaultOf source text f
-
-    -- r is that ending
-    abbrev pub Agrees : Ending Sum → Result Whole Fault → Type 0
-    Agrees (stated sum) (Ok w) = sum ≡ whole w
-    Agrees (stated sum) (Err f) = ⊥
-    Agrees (refused r number) (Ok w) = ⊥
-    Agrees (refused r number) (Err f) = f ≡ in_text source r number

@@ -3,9 +3,10 @@ ghost use Rattle.std.specs.Prelude.{◌≤◌, length};
 
 use arrayvec::ArrayVec;
 use itoa::Buffer;
+use refusal::Fault;
 
-// A text of at most 8,192 bytes, the longest that is ever read. What is put at its end beyond that is lost. It is put there by
-// calls, and not by `write!` of a `Display`: they take no heap and cannot fail, where `write!` answers a `Result`.
+/// A text of at most 8,192 bytes, the longest that is ever read. What is put at its end beyond that is lost. It is put there by
+/// calls, and not by `write!` of a `Display`: they take no heap and cannot fail, where `write!` answers a `Result`.
 #[derive(Drop)]
 pub struct Page {
     bytes: ArrayVec<u8, 8192>,
@@ -14,9 +15,10 @@ pub struct Page {
 
 impl Page {
     ghost use Rattle.std.specs.Prelude.{◌≡◌, [], ◌∷◌, decimal};
+    ghost use Rattle.refusal.specs.Faults.{fault_line};
     ghost use Rattle.text.specs.Pages.{page_text, Appended};
 
-    // A page with nothing on it.
+    /// A page with nothing on it.
     pub fn new() -> Page
         ensures { page_text result ≡ [] }
     {
@@ -25,14 +27,14 @@ impl Page {
         }
     }
 
-    // The text so far.
+    /// The text so far.
     pub fn text(&self) -> &[u8]
         ensures { result.now ≡ page_text self.now }
     {
         self.bytes.as_slice()
     }
 
-    // One byte more.
+    /// Puts one byte more at the end.
     pub fn push(&mut self, b: u8)
         ensures { Appended self.old (b ∷ []) self.new }
     {
@@ -41,20 +43,39 @@ impl Page {
         }
     }
 
-    // A number in base ten.
-    pub fn number(&mut self, n: u32)
-        ensures { Appended self.old (decimal n) self.new }
+    /// Puts the bytes at the end.
+    pub fn put(&mut self, bytes: &[u8])
+        ensures { Appended self.old bytes.now self.new }
     {
-        for digit in Buffer::new().format(n).as_bytes() {
-            self.push(*digit);
+        for b in bytes {
+            self.push(*b);
         }
     }
 
-    // A number as a field: a space before it.
-    pub fn field(&mut self, n: u32)
+    /// Puts a number in base ten.
+    pub fn number(&mut self, n: u64)
+        ensures { Appended self.old (decimal n) self.new }
+    {
+        self.put(Buffer::new().format(n).as_bytes());
+    }
+
+    /// Puts a number as a field: a space before it.
+    pub fn field(&mut self, n: u64)
         ensures { Appended self.old (32 ∷ decimal n) self.new }
     {
         self.push(b' ');
         self.number(n);
+    }
+
+    /// Puts a fault as it is printed, `refused number layer line`.
+    pub fn fault(&mut self, fault: Fault)
+        ensures { Appended self.old (fault_line fault) self.new }
+    {
+        self.put(b"refused ");
+        self.number(u64::from(fault.number()));
+        self.push(b' ');
+        self.put(fault.layer().name());
+        self.push(b' ');
+        self.number(fault.line as u64);
     }
 }

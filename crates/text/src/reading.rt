@@ -1,6 +1,6 @@
 // A text read line by line, for any form of lines.
 ghost use Rattle.std.specs.Prelude.{◌≡◌, ◌<◌, length, OnErr, MatchResult};
-ghost use Rattle.text.specs.Reading.{Form, Leads, LineRefused, Refused};
+ghost use Rattle.text.specs.Reading.{Form, continued, Leads, LineRefused, Refused};
 ghost use Rattle.text.specs.Readings.{Takes, Finishes, ReadAs};
 
 use crate::lines::first_line;
@@ -44,9 +44,9 @@ fn take_line<'a, D: Draft>(draft: &mut D, rest: &'a [u8]) -> Result<&'a [u8], Re
     Ok(after)
 }
 
-// What the text states, by a draft that begins with no line; or the first refusal in the order of the tests, with its line.
+/// What the text states besides what the draft states already; or the first refusal in the order of the tests, with its line.
 pub fn read<D: Draft>(draft: D, source: Source, text: &[u8]) -> Result<D::Whole, Fault>
-    ensures { D.stated draft ≡ D.form.blank → ReadAs D.form D.whole source text.now result }
+    ensures { ReadAs (continued D.form (D.stated draft)) D.whole source text.now result }
 {
     if text.len() > 8192 {
         return Err(Fault::in_text(source, Refusal::TextTooLong, 0));

@@ -2,6 +2,7 @@
 use Rattle.std.specs.Prelude.{ℕ, List, [], ◌∷◌, codes}
 use Rattle.book.specs.declared.rules.RightSide.TheVariants.{Cut, Pair}
 use Rattle.book.specs.declared.rules.Rule.{Rule}
+use Rattle.book.specs.declared.books.Book.{Book}
 use Rattle.sheet.specs.Pairs.{Pairs}
 use Rattle.order.specs.Texts.{drawn_pairs}
 
@@ -28,6 +29,10 @@ jig =
     ∷ pair_of 2 0 3 0 0
     ∷ cut_of 3 75 8 1
     ∷ []
+
+-- the jig book
+abbrev pub jig_book : Book
+jig_book = record { parts = parts; rules = jig }
 
 -- how many places the sheet has
 abbrev pub places : ℕ

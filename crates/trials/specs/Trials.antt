@@ -8,13 +8,14 @@ use Rattle.scale.specs.Times.{time, time_ops}
 use Rattle.scale.specs.Grades.{grade_of, grade_ops}
 use Rattle.scale.specs.TimeGrades.{time_grade, time_grade_ops}
 use Rattle.book.specs.declared.rules.Rule.{Rule}
+use Rattle.book.specs.BookSaid.{rules_of}
 use Rattle.book.specs.Ranges.{Lawful}
 use Rattle.sheet.specs.Pairs.{Pairs}
-use Rattle.derivations.specs.Trees.{prices}
+use Rattle.derivations.specs.Trees.{weights}
 use Rattle.derivations.specs.Costs.{cost}
 use Rattle.derivations.specs.Runs.{NoneWithin}
 use Rattle.planner.specs.Outcomes.{PrunedTo, QuotedAs}
-use Rattle.trials.specs.Jig.{parts, jig, places, sheet}
+use Rattle.trials.specs.Jig.{parts, jig, jig_book, places, sheet}
 
 -- an example, in the values S of a scale
 pub data Row (S : Type 0) : Type 0 where
@@ -57,21 +58,21 @@ trials =
 module _ {S : Type 0} (o : Ops S) where
   -- what a prune of the sheet within the limit comes to
   abbrev pub JigPruned : (limit : S) → Pairs → S → ℕ → Type 0
-  JigPruned limit after least closed = PrunedTo o (prices o jig) jig places sheet limit after least closed
+  JigPruned limit after least closed = PrunedTo o (weights o jig_book) (rules_of jig_book) places sheet limit after least closed
 
   -- what a quote of the sheet within the limit comes to, where the list `lent` was lent
   abbrev pub JigQuoted : (limit : S) → (lent written : List ℕ) → S → Type 0
-  JigQuoted limit lent written price = QuotedAs o (prices o jig) jig places sheet limit lent written price
+  JigQuoted limit lent written price = QuotedAs o (weights o jig_book) (rules_of jig_book) places sheet limit lent written price
 
   -- what a row says; a prune or a quote comes to that and to nothing else, whichever list of three bytes is lent. No limit is
   -- barred, so a row that refuses does so for want of a run
   abbrev pub RowHolds : Row S → Type 0
-  RowHolds (costs run price) = cost o (prices o jig) jig run ≡ price
+  RowHolds (costs run price) = cost o (weights o jig_book) (rules_of jig_book) run ≡ price
   RowHolds (closes limit closed) =
       (o.le o.barred limit ≡ false)
       × ((after : Pairs) × (least : S) × JigPruned limit after least closed)
       × ((after : Pairs) (least : S) (other : ℕ) → JigPruned limit after least other → other ≡ closed)
-  RowHolds (refuses limit) = (o.le o.barred limit ≡ false) × NoneWithin o (prices o jig) jig places sheet limit
+  RowHolds (refuses limit) = (o.le o.barred limit ≡ false) × NoneWithin o (weights o jig_book) (rules_of jig_book) places sheet limit
   RowHolds (quotes limit run price) =
       (o.le o.barred limit ≡ false)
       × ((lent : List ℕ) → length lent ≡ places → JigQuoted limit lent run price × ((written : List ℕ) (other : S) → JigQuoted limit lent written other → (written ≡ run) × (other ≡ price)))

@@ -3,7 +3,6 @@ ghost use Rattle.std.specs.Prelude.{◌≡◌, ◌≤◌};
 ghost use Rattle.scale.specs.Barred.{barred_level};
 
 use crate::Scale;
-use std::fmt;
 
 // A grade, which is a blade heat. The largest number is barred, and 0 is free.
 #[derive(Clone, Copy, PartialEq, Eq, PartialOrd, Ord, Debug)]
@@ -56,21 +55,5 @@ impl Scale for Grade {
 
     fn price(_time: u32, grade: u8) -> Grade {
         Grade::new(grade)
-    }
-}
-
-// The number of the blade heat, or `barred`.
-impl fmt::Display for Grade {
-    ghost use Rattle.std.specs.Prelude.{Some};
-    ghost use Rattle.scale.specs.Grades.{grade_text};
-
-    ghost output = { λ g. Some (grade_text g) };
-
-    fn fmt<W: fmt::Write>(&self, f: &mut fmt::Formatter<W>) -> fmt::Result {
-        if self.is_barred() {
-            write!(f, "barred")
-        } else {
-            write!(f, "{}", self.level)
-        }
     }
 }

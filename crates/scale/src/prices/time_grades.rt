@@ -3,7 +3,6 @@ ghost use Rattle.std.specs.Prelude.{◌≡◌, ◌≤◌, ◌↔◌};
 ghost use Rattle.scale.specs.Barred.{barred_tenths, barred_level};
 
 use crate::Scale;
-use std::fmt;
 
 // A time in tenths of a second, and a grade. Where one part is the barred number so is the other: there is one barred pair.
 // Pairs go by their time, and at equal time by their grade: the order of the fields is the order that is derived.
@@ -98,21 +97,5 @@ impl Scale for TimeGrade {
 
     fn price(time: u32, grade: u8) -> TimeGrade {
         TimeGrade::new(time, grade)
-    }
-}
-
-// The tenths, a space and the grade, or `barred`.
-impl fmt::Display for TimeGrade {
-    ghost use Rattle.std.specs.Prelude.{Some};
-    ghost use Rattle.scale.specs.TimeGrades.{time_grade_text};
-
-    ghost output = { λ p. Some (time_grade_text p) };
-
-    fn fmt<W: fmt::Write>(&self, f: &mut fmt::Formatter<W>) -> fmt::Result {
-        if self.is_barred() {
-            write!(f, "barred")
-        } else {
-            write!(f, "{} {}", self.tenths, self.level)
-        }
     }
 }

@@ -3,7 +3,6 @@ ghost use Rattle.std.specs.Prelude.{◌≡◌, ◌≤◌};
 ghost use Rattle.scale.specs.Barred.{barred_tenths};
 
 use crate::Scale;
-use std::fmt;
 
 // A time in tenths of a second. The largest number is barred, and 0 is free.
 #[derive(Clone, Copy, PartialEq, Eq, PartialOrd, Ord, Debug)]
@@ -56,21 +55,5 @@ impl Scale for Time {
 
     fn price(time: u32, _grade: u8) -> Time {
         Time::new(time)
-    }
-}
-
-// The number of tenths, or `barred`.
-impl fmt::Display for Time {
-    ghost use Rattle.std.specs.Prelude.{Some};
-    ghost use Rattle.scale.specs.Times.{time_text};
-
-    ghost output = { λ t. Some (time_text t) };
-
-    fn fmt<W: fmt::Write>(&self, f: &mut fmt::Formatter<W>) -> fmt::Result {
-        if self.is_barred() {
-            write!(f, "barred")
-        } else {
-            write!(f, "{}", self.tenths)
-        }
     }
 }
