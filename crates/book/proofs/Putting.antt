@@ -46,11 +46,14 @@ rules_length k (u ∷ us) h =
     let s = h.0.1 in
     omega (arith, length-append (ended_line (rule u)) (flat_map (λ v. ended_line (rule v)) us), length_push (rule_text u) 10, side_length u.part u.side u.time u.grade s.0 s.1 s.2 s.3, rules_length k us h.1)
 
-pub written_short : (k : ℕ) (rules : List Rule) → Lawful k rules → length (written k rules) ≤ 8192
+pub written_length : (k : ℕ) (rules : List Rule) → Lawful k rules → length (written k rules) ≤ 5000
 unfolding written
-written_short k rules h =
+written_length k rules h =
     let one = fielded_short (decimal k ∷ []) (decimal_short k (omega (arith, h.few_parts)), tt) in
     omega (arith, length-append (ended_line (parts k)) (flat_map (λ u. ended_line (rule u)) rules), length_push (107 ∷ fielded (decimal k ∷ [])) 10, rules_length k rules (all_fit k rules h), h.few_rules)
+
+pub written_short : (k : ℕ) (rules : List Rule) → Lawful k rules → length (written k rules) ≤ 8192
+written_short k rules h = omega (arith, written_length k rules h)
 
 -- fields, and then z
 abbrev chain : List (List ℕ) → List ℕ → List ℕ

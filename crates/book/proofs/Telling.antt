@@ -110,3 +110,9 @@ told_by text (Ok b) o = accepted_tells text b.parts b.rules o
 told_by text (Err f) o = λ b t.
     let e : ◌≡◌ {A = Result Book Fault} (Ok b) (Err f) = one_outcome text (Ok b) (Err f) (tells_accepted text b t) o in
     let z : ◌≡◌ {A = ℕ} 0 1 = cc in omega arith
+
+-- a text tells one book
+pub one_told : (text : List ℕ) (b c : Book) → Tells text b → Tells text c → b ≡ c
+one_told text b c t u =
+    let e : ◌≡◌ {A = Result Book Fault} (Ok b) (Ok c) = one_outcome text (Ok b) (Ok c) (tells_accepted text b t) (tells_accepted text c u) in
+    cc

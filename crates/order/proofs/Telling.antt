@@ -6,7 +6,7 @@ use Rattle.refusal.specs.declared.Source.TheVariants as source
 use Rattle.refusal.specs.declared.Fault.{Fault}
 use Rattle.text.specs.Reading.{Reads, Listed, Accepted, Ending, stated, refused, Ends}
 use Rattle.text.specs.Readings.{FaultOf}
-use Rattle.text.proofs.Endings.{apart, one_ending}
+use Rattle.text.proofs.Endings.{apart, listed_unique, one_ending}
 use Rattle.text.proofs.Standing.{listed}
 use Rattle.order.specs.declared.limits.Limit.{Limit}
 use Rattle.order.specs.declared.Order.{Order}
@@ -71,7 +71,7 @@ places_told l done (letters ∷ todo) bs h n =
       subst (λ k. Reads order_form (map place todo) (stated_with l (done ++ mask_of letters ∷ [])) h.1 (stated_with l k) []) (append_assoc done (mask_of letters ∷ []) (map mask_of todo)) more,
     )
 
-tells_accepted : (text : List ℕ) (l : Limit) (places : List (List ℕ)) → Tells text l places → Accepted order_form text (stated_with l (map mask_of places))
+pub tells_accepted : (text : List ℕ) (l : Limit) (places : List (List ℕ)) → Tells text l places → Accepted order_form text (stated_with l (map mask_of places))
 tells_accepted text l places t =
     let h = t.listed in
     record {
@@ -145,3 +145,35 @@ told_by text before (Ok o) after x = accepted_drawn text before o x.0 after x.1 
 told_by text before (Err f) after x = λ l places t.
     let a = accepted_short text before f after x (stated_with l (map mask_of places)) (tells_accepted text l places t) in
     (a.0, subst (λ n. length before < n) (length-map places mask_of) a.1)
+
+-- a text tells one order
+same_places : (one two : List (List ℕ)) → map place one ≡ map place two → one ≡ two
+same_places [] [] e = refl
+same_places [] (letters ∷ two) e = let z : ◌≡◌ {A = ℕ} 0 1 = cc in absurd (omega arith)
+same_places (letters ∷ one) [] e = let z : ◌≡◌ {A = ℕ} 0 1 = cc in absurd (omega arith)
+same_places (letters ∷ one) (others ∷ two) e =
+    let first : letters ≡ others = cc in
+    let rest : map place one ≡ map place two = cc in
+    let more = same_places one two rest in
+    (λ i. first i ∷ more i)
+
+pub one_told : (text : List ℕ) (l m : Limit) (places others : List (List ℕ)) → Tells text l places → Tells text m others → (l ≡ m) × (places ≡ others)
+one_told text l m places others t u =
+    let e = listed_unique order_form order_plain (limit l ∷ map place places) (limit m ∷ map place others) text t.listed u.listed in
+    let same : l ≡ m = cc in
+    let rest : map place places ≡ map place others = cc in
+    (same, same_places places others rest)
+
+-- a text that tells an order is not refused
+pub told_refused : (text : List ℕ) (l : Limit) (places : List (List ℕ)) (f : Fault) → Tells text l places → FaultOf order_form source.Order text f → ⊥
+told_refused text l places f t x =
+    let sum = stated_with l (map mask_of places) in
+    apart sum x.0 x.1 (one text (stated sum) (refused x.0 x.1) (tells_accepted text l places t) x.3)
+
+-- nor is it refused in two ways
+pub one_refused : (text : List ℕ) (f g : Fault) → FaultOf order_form source.Order text f → FaultOf order_form source.Order text g → f ≡ g
+one_refused text f g x y =
+    let e = one text (refused x.0 x.1) (refused y.0 y.1) x.3 y.3 in
+    let e₁ : x.0 ≡ y.0 = cc in
+    let e₂ : x.1 ≡ y.1 = cc in
+    x.2 ∙ (λ i. in_order (e₁ i) (e₂ i)) ∙ sym y.2

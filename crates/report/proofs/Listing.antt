@@ -1,9 +1,6 @@
--- The lines of a sheet on a page: one more stroke, one more place, and all of them fit. Assumes nothing.
+-- The lines of a sheet: one more stroke, one more place, and how long all of them are. Assumes nothing.
 use Rattle.std.proofs.Common.{◌≡◌, ℕ, zero, suc, ◌+◌, ◌-◌, ◌*◌, ◌≤◌, Bool, true, false, cond, [], ◌∷◌, ◌++◌, length, take, decimal, ap, ◌∙◌, arith, length-append}
-use Rattle.std.proofs.lemmas.List.{take_all}
 use Rattle.sheet.specs.Pairs.{Pairs}
-use Rattle.text.specs.declared.pages.Page.{Page}
-use Rattle.text.specs.Pages.{page_text, Appended}
 use Rattle.text.proofs.Chaining.{decimal_short}
 use Rattle.report.specs.Sheets.{if_open, open_letters, place_line, sheet_text}
 
@@ -29,14 +26,10 @@ module _ (f : Pairs) where
   strokes_length p zero = omega arith
   strokes_length p (suc k) = omega (arith, length-append (open_letters f p k) (if_open f p (65 + k)), one_at_most (f p (65 + k)) (65 + k), strokes_length p k)
 
-  places_length : (n : ℕ) → n ≤ 24 → length (sheet_text f n) ≤ 34 * n
+  pub places_length : (n : ℕ) → n ≤ 24 → length (sheet_text f n) ≤ 34 * n
   places_length zero h = omega arith
   places_length (suc n) h =
       let letters = open_letters f (suc n) 26 in
       let line = length-append (decimal (suc n)) (32 ∷ (letters ++ 10 ∷ [])) in
       let rest = length-append letters (10 ∷ []) in
       omega (arith, length-append (sheet_text f n) (place_line f (suc n)), line, rest, strokes_length (suc n) 26, decimal_short (suc n) (omega arith), places_length n (omega arith))
-
-  -- a page with a sheet alone
-  pub alone : (n : ℕ) {p q : Page} → n ≤ 24 → page_text p ≡ [] → Appended p (sheet_text f n) q → page_text q ≡ sheet_text f n
-  alone n few e a = a.grown ∙ ap (λ l. take 8192 (l ++ sheet_text f n)) e ∙ take_all 8192 (sheet_text f n) (omega (arith, places_length n few))

@@ -1,54 +1,30 @@
-// Why a program prints no report of what it read, and what it prints then.
-ghost use Rattle.std.specs.Prelude.{◌≡◌, Some};
-ghost use Rattle.report.specs.declared.errors.ReportError.TheVariants.{OutOfMemory};
-ghost use Rattle.report.specs.Reports.{printed, error_text};
-
-use refusal::Source;
-use std::alloc::AllocError;
-use std::error::Error;
-use std::fmt;
-
-#[derive(Debug, Drop)]
-pub enum ReportError {
-    // what was read is refused, and the text says so
-    Refused { of: Source, text: Vec<u8> },
-    // there is no memory for the report
-    OutOfMemory,
-}
-
-// What is printed of a report: its text, also where it is of a refusal; and nothing for want of memory.
-pub fn printed(report: &Result<Vec<u8>, ReportError>) -> &[u8]
-    ensures { result.now ≡ printed report.now }
-{
-    match report {
-        Ok(text) => text.as_slice(),
-        Err(ReportError::Refused { text, .. }) => text.as_slice(),
-        Err(ReportError::OutOfMemory) => b"",
-    }
-}
-
-impl From<AllocError> for ReportError {
-    ghost from_gives = { λ _ e. e ≡ OutOfMemory };
-
-    fn from(_error: AllocError) -> ReportError {
-        ReportError::OutOfMemory
-    }
-}
-
 // The error that a program ends with.
-impl fmt::Display for ReportError {
-    ghost output = { λ e. Some (error_text e) };
+use refusal::Source;
+use thiserror::Error;
 
-    fn fmt<W: fmt::Write>(&self, f: &mut fmt::Formatter<W>) -> fmt::Result {
-        match self {
-            ReportError::Refused { of, .. } => match *of {
-                Source::Sheet => write!(f, "the sheet is refused"),
-                Source::Book => write!(f, "the book is refused"),
-                Source::Order => write!(f, "the order is refused"),
-            },
-            ReportError::OutOfMemory => write!(f, "memory allocation failed"),
+/// What a program refused. It is the error that the program ends with; what it printed of the refusal stands in its report.
+#[derive(Clone, Copy, PartialEq, Eq, Debug, Error)]
+pub enum Refused {
+    #[error("the sheet is refused")]
+    Sheet,
+    #[error("the book is refused")]
+    Book,
+    #[error("the order is refused")]
+    Order,
+}
+
+impl Refused {
+    ghost use Rattle.std.specs.Prelude.{◌≡◌};
+    ghost use Rattle.report.specs.Reports.{refused_of};
+
+    /// That what was read from there is refused.
+    pub fn new(source: Source) -> Refused
+        ensures { result ≡ refused_of source }
+    {
+        match source {
+            Source::Sheet => Refused::Sheet,
+            Source::Book => Refused::Book,
+            Source::Order => Refused::Order,
         }
     }
 }
-
-impl Error for ReportError {}

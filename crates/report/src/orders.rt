@@ -1,40 +1,39 @@
 // What is printed of an order.
-ghost use Rattle.std.specs.Prelude.{◌≡◌, IfOk};
+ghost use Rattle.std.specs.Prelude.{◌≡◌};
+ghost use Rattle.text.specs.Pages.{Appended};
+ghost use Rattle.report.specs.ReportSaid.{ReportSaid};
 ghost use Rattle.report.specs.Reports.{order_summary, OrderReport};
 
+use crate::reports::Report;
 use crate::sheets::put_sheet;
-use crate::{ReportError, fault_report};
 use order::{Limit, read};
-use refusal::Source;
 use sheet::{MaskSheet, Sheet};
-use std::alloc::{AllocError, Global};
 use text::Page;
 
-// The limit, and then each place of the sheet with its open strokes.
-pub fn order_summary<S: Sheet>(heap: Global, limit: Limit, sheet: &S) -> Result<Vec<u8>, AllocError>
-    ensures { IfOk result (λ v. v.items ≡ order_summary limit (S.shown sheet.now) (S.places sheet.now)) }
+/// Puts an order on a page: its limit, and then each place of its sheet with the open strokes.
+pub fn put_order<S: Sheet>(page: &mut Page, limit: Limit, sheet: &S)
+    ensures { Appended page.old (order_summary limit (S.shown sheet.now) (S.places sheet.now)) page.new }
 {
-    let mut page = Page::new();
-    put_sheet(&mut page, sheet);
-    let mut out = format!(in heap; "limit {limit}\n")?.into_bytes();
-    out.extend_from_slice(page.text())?;
-    Ok(out)
+    page.put(b"limit ");
+    limit.put(page);
+    page.push(b'\n');
+    put_sheet(page, sheet);
 }
 
-// What an order's text says: its summary, or the refusal.
-pub fn order_report(heap: Global, text: &[u8]) -> Result<Vec<u8>, ReportError>
-    ensures { OrderReport text.now result }
+/// What an order's text says: its summary, or the refusal with its faulty line.
+pub fn order_report(text: &[u8]) -> Report
+    ensures report { OrderReport text.now result }
+    ensures only { (other : ReportSaid) → OrderReport text.now other → other ≡ result }
 {
     // The memory of the sheet, lent to the reader: as many numbers as an order may have places.
     let mut memory = [0u32; 16];
     match read(text, &mut memory) {
         Ok(order) => {
-            let sheet = MaskSheet::new(&mut memory[0..order.places]);
-            Ok(order_summary(heap, order.limit, &sheet)?)
+            let sheet = MaskSheet::new(&mut memory[..order.places]);
+            let mut page = Page::new();
+            put_order(&mut page, order.limit, &sheet);
+            Report::of(page)
         }
-        Err(fault) => Err(ReportError::Refused {
-            of: Source::Order,
-            text: fault_report(heap, b"", text, fault)?,
-        }),
+        Err(fault) => Report::of_fault(b"", text, fault),
     }
 }

@@ -31,13 +31,13 @@ fn put_place<S: Sheet>(page: &mut Page, sheet: &S, place: usize)
     requires { place ≤ 24 }
     ensures { Appended page.old (place_line (S.shown sheet.now) place) page.new }
 {
-    page.number(place as u32);
+    page.number(place as u64);
     page.push(b' ');
     put_strokes(page, sheet, place);
     page.push(b'\n');
 }
 
-// Puts a line for each place of the sheet on the page.
+/// Puts a line for each place of the sheet on the page: its number, from 1, a space and its open strokes.
 pub fn put_sheet<S: Sheet>(page: &mut Page, sheet: &S)
     ensures { Appended page.old (sheet_text (S.shown sheet.now) (S.places sheet.now)) page.new }
 {

@@ -1,5 +1,5 @@
 -- One text put after another, as far as there is room. Assumes nothing.
-use Rattle.std.proofs.Common.{◌≡◌, ℕ, zero, suc, ◌+◌, ◌<◌, List, [], ◌∷◌, ◌++◌, length, get_or, take, sym, refl, ap, ◌∙◌, subst, append_assoc, append-nil, arith, length-append}
+use Rattle.std.proofs.Common.{◌≡◌, ℕ, zero, suc, ◌+◌, ◌<◌, ◌≤◌, List, [], ◌∷◌, ◌++◌, length, get_or, take, sym, refl, ap, ◌∙◌, subst, append_assoc, append-nil, arith, length-append}
 use Rattle.std.proofs.lemmas.List.{take_all, take_more, take-append-le}
 use Rattle.text.specs.declared.pages.Page.{Page}
 use Rattle.text.specs.Pages.{page_text, Appended}
@@ -35,3 +35,7 @@ byte_lost xs b h = sym (take-append-le 8192 xs (b ∷ []) (omega arith) ∙ take
 -- the first bytes of a text, and one more
 pub front_put : {p q r : Page} (bs : List ℕ) (i : ℕ) → i < length bs → Appended p (take i bs) q → Appended q (get_or bs i 0 ∷ []) r → Appended p (take (i + 1) bs) r
 front_put bs i h f g = appended_same (sym (take_more bs i 0 h)) (appended_then f g)
+
+-- a page with one text alone, which fits
+pub alone : {p q : Page} {bs : List ℕ} → page_text p ≡ [] → Appended p bs q → length bs ≤ 8192 → page_text q ≡ bs
+alone {bs = bs} e a h = a.grown ∙ ap (λ l. take 8192 (l ++ bs)) e ∙ take_all 8192 bs h

@@ -4,7 +4,7 @@ use Rattle.refusal.specs.declared.Refusal.{Refusal}
 use Rattle.refusal.specs.declared.Refusal.TheVariants.{TextTooLong, UnknownLine, MalformedField}
 use Rattle.text.specs.Fields.{Lacks}
 use Rattle.text.specs.Lines.{Starts}
-use Rattle.text.specs.Reading.{Test, Passes, Fails, Form, Known, Leads, Reads, LineRefused, Refused, RefusedAt, Ending, stated, refused, Ends}
+use Rattle.text.specs.Reading.{Test, Passes, Fails, Form, Known, Leads, Reads, Listed, LineRefused, Refused, RefusedAt, Ending, stated, refused, Ends}
 use Rattle.text.proofs.Cutting.{starts_unique, starts_has, starts_shorter}
 
 -- a line states one thing at the most, and then its first letter is one of the form's
@@ -113,6 +113,17 @@ module _ {Said Sum : Type 0} (form : Form Said Sum) where
 
     leads_refused : (sum : Sum) (bs : List ℕ) (said : Said) (after : List ℕ) (r : Refusal) → Leads form sum bs said after → Refused form sum bs r → ⊥
     leads_refused sum bs said after r l f = passes_fails (form.tests sum said) r l.passed (stated_refused sum l.line said r l.stated (refused_start sum bs l.line after r l.starts f))
+
+    -- lines state one thing
+    pub listed_unique : (ls ms : List Said) (text : List ℕ) → Listed form ls text → Listed form ms text → ls ≡ ms
+    listed_unique [] [] text h g = refl
+    listed_unique [] (m ∷ ms) text h g = absurd (no_line g.2 h)
+    listed_unique (l ∷ ls) [] text h g = absurd (no_line h.2 g)
+    listed_unique (l ∷ ls) (m ∷ ms) text h g =
+        let e = starts_unique h.2 g.2 in
+        let same : l ≡ m = plain.once g.0 l m (subst (λ z. form.states z l) e.0 h.3) g.3 in
+        let more = listed_unique ls ms g.1 (subst (Listed form ls) e.1 h.4) g.4 in
+        (λ i. same i ∷ more i)
 
     -- a reading stops: at the end with nothing refused, or with a refusal
     abbrev Stops : Option Refusal → Sum → List ℕ → Type 0

@@ -7,3 +7,4 @@ pub mod Endings
 pub mod Letters
 pub mod Standing
 pub mod Answering
+mod Naming

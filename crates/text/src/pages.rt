@@ -52,9 +52,10 @@ impl Page {
         }
     }
 
-    /// Puts a number in base ten.
+    /// Puts a number in base ten, which is at most 20 digits.
     pub fn number(&mut self, n: u64)
-        ensures { Appended self.old (decimal n) self.new }
+        ensures text { Appended self.old (decimal n) self.new }
+        ensures short { length (decimal n) ≤ 20 }
     {
         self.put(Buffer::new().format(n).as_bytes());
     }
@@ -67,9 +68,10 @@ impl Page {
         self.number(n);
     }
 
-    /// Puts a fault as it is printed, `refused number layer line`.
+    /// Puts a fault as it is printed, `refused number layer line`, which is at most 64 bytes.
     pub fn fault(&mut self, fault: Fault)
-        ensures { Appended self.old (fault_line fault) self.new }
+        ensures text { Appended self.old (fault_line fault) self.new }
+        ensures short { length (fault_line fault) ≤ 64 }
     {
         self.put(b"refused ");
         self.number(u64::from(fault.number()));

@@ -2,4 +2,4 @@ use Rattle.text.proofs.Appending.{appended_then}
 use Rattle.order.proofs.limits.put_grade.Goals as goal
 
 pub returns : goal.returns
-returns c = appended_then c.put.ensures c.number.ensures
+returns c = appended_then c.put.ensures c.number.ensures.text
