@@ -40,7 +40,7 @@ fn answer_of_baseline(book: &[u8], run: &[u8], inside: &mut [Time]) -> u64 {
     }
 }
 
-/// The refusals that the entry can give, but 31, for want of memory.
+/// The refusals that the entry can give.
 const REFUSALS: [u64; 11] = [2, 6, 10, 11, 12, 13, 14, 15, 16, 17, 19];
 
 fn main() {

@@ -4,13 +4,14 @@ ghost use Rattle.std.specs.Prelude.{◌≡◌, length};
 use book::Book;
 use planner::{Pruned, prune, quote};
 use refusal::Refusal;
+use report::Printed;
 use scale::Scale;
 use sheet::{CardSheet, Sheet};
 use std::alloc::{AllocError, Global};
-use std::fmt::Display;
 use std::io::{self, Write};
 use std::rt::Clock;
 use std::time::{Duration, Instant};
+use text::Page;
 
 // The boards of one scale, for 24 places and 32 parts.
 #[derive(Drop)]
@@ -110,7 +111,7 @@ impl Measures {
     }
 
     // Measures one panel more.
-    pub(crate) fn take<S: Scale + Display>(
+    pub(crate) fn take<S: Printed>(
         &mut self,
         clock: &impl Clock,
         book: &Book,
@@ -151,19 +152,22 @@ impl Measures {
     }
 
     // Tells what a prune and a quote answered, the run and the rows that are left.
-    fn tell<S: Scale + Display>(
+    fn tell<S: Printed>(
         &mut self,
         pruned: Pruned<S>,
         cost: S,
         run: &[u8],
         rows: &[u8],
     ) -> io::Result<()> {
-        let least = pruned.least;
-        let closed = pruned.closed;
-        write!(
-            self.said,
-            "least {least}\nstruck {closed}\ncost {cost}\nrun "
-        )?;
+        let mut page = Page::new();
+        page.put(b"least ");
+        pruned.least.put(&mut page);
+        page.put(b"\nstruck ");
+        page.number(pruned.closed as u64);
+        page.put(b"\ncost ");
+        cost.put(&mut page);
+        page.put(b"\nrun ");
+        self.said.extend_from_slice(page.text())?;
         self.said.extend_from_slice(run)?;
         self.said.push(b'\n')?;
         self.said.extend_from_slice(rows)?;
