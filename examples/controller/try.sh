@@ -6,8 +6,7 @@ top=$here/../..
 made=$(mktemp -d)
 trap 'rm -rf "$made"' EXIT
 (cd "$top/crates/controller" && rt lib > "$made/lib.log" 2>&1) || { cat "$made/lib.log" >&2; exit 1; }
-kit=$(dirname "$(rt doc)")
-cc -O2 -Wall -Wextra -o "$made/saw" "$here/saw.c" "$top/crates/controller/out/libcontroller.a" "$kit/c/liblibc_c.a"
+cc -O2 -Wall -Wextra -o "$made/saw" "$here/saw.c" "$top/crates/controller/out/libcontroller.a"
 for run in S JSK JMK SJ "" Ss SSSSSSSSSSSSSSSSS; do
     "$made/saw" "$top/examples/jig/book.txt" "$run" || true
 done > "$made/said"
