@@ -8,8 +8,8 @@ pub mod Keeping
 pub mod Drawing
 pub mod Following
 pub mod Picking
-pub mod Separating
 pub mod Tracing
+pub mod Owing
 pub mod Naming
 pub mod Pushing
 pub mod Lowering

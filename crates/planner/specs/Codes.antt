@@ -1,6 +1,6 @@
 -- The board of choices: a number that names a split and a rule, for each part and span of the derivation that the tie rule takes.
 -- Assumes nothing.
-use Rattle.std.specs.Prelude.{◌≡◌, ℕ, ◌+◌, ◌*◌, ◌<◌, ◌≤◌, List}
+use Rattle.std.specs.Prelude.{◌≡◌, ℕ, ◌+◌, ◌*◌, List}
 use Rattle.scale.specs.Ops.{Ops}
 use Rattle.book.specs.declared.rules.RightSide.TheVariants.{Cut, Pair}
 use Rattle.book.specs.declared.rules.Rule.{Rule}
@@ -39,8 +39,3 @@ Follows rules codes k part before len (pair r a b) =
 abbrev pub NamesChosen : {S : Type 0} → Ops S → Weights S → List Rule → Pairs → ℕ → List ℕ → ℕ → ℕ → ℕ → Type 0
 NamesChosen o W rules shown k codes part before len =
     (t : Tree) × Follows rules codes k part before len t × Chosen o W rules shown part before len t
-
--- the codes of the spans that do not lie within one are the same in both
-abbrev pub SameOutside : ℕ → List ℕ → List ℕ → ℕ → ℕ → Type 0
-SameOutside k codes other before len =
-    (q b l : ℕ) → q < k → 1 ≤ l → ((before ≤ b) × (b + l ≤ before + len) → ⊥) → entry_of 0 k other q b l ≡ entry_of 0 k codes q b l

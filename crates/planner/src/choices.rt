@@ -5,12 +5,13 @@ ghost use Rattle.planner.specs.Boards.{board_entries, entry_of, span_number};
 ghost use Rattle.derivations.specs.Least.{LeastOf};
 ghost use Rattle.derivations.specs.Trees.{rule_at, weight};
 ghost use Rattle.planner.specs.Charts.{Filled, Inside};
-ghost use Rattle.planner.specs.Codes.{DerivesBySplit, NamesChosen, Picked, SameOutside};
+ghost use Rattle.planner.specs.Codes.{DerivesBySplit, NamesChosen, Picked};
 
 use crate::boards::{entry, put};
 use crate::prices::Prices;
 use crate::spans::Span;
 use crate::tasks::Task;
+use arrayvec::ArrayVec;
 use book::RightSide;
 use scale::Scale;
 use sheet::Sheet;
@@ -72,7 +73,7 @@ impl<H: Sheet, W> Task<'_, H, W> {
         code
     }
 
-    // Writes the codes of the derivation that the tie rule takes: that of the part over the span, and then those of its two halves.
+    // Writes the codes of the derivation that the tie rule takes: that of the part over the span, and those of its two halves.
     pub(crate) fn choose<S: Scale>(self, board: &[S], codes: &mut [u32], span: Span, part: u8)
     where
         W: Prices<S>,
@@ -82,19 +83,46 @@ impl<H: Sheet, W> Task<'_, H, W> {
         requires codes { board_entries (H.places self.sheet.now) self.parts ≤ length codes.old }
         requires inside { Inside S.ops (W.weights self.prices.now self.rules.now) self.rules.now (H.places self.sheet.now) (H.shown self.sheet.now) self.parts board.now }
         requires lawful { S.ops.le S.ops.barred (entry_of S.ops.barred self.parts board.now part span.before span.len) ≡ false }
-        ensures named { NamesChosen S.ops (W.weights self.entry.prices.now self.entry.rules.now) self.entry.rules.now (H.shown self.entry.sheet.now) self.entry.parts codes.new part span.before span.len }
-        ensures others { SameOutside self.entry.parts codes.old codes.new span.before span.len }
+        ensures { NamesChosen S.ops (W.weights self.entry.prices.now self.entry.rules.now) self.entry.rules.now (H.shown self.entry.sheet.now) self.entry.parts codes.new part span.before span.len }
     {
-        let code = self.choice(board, span, part);
-        put(codes, self.parts, span, part, code);
-        let side = self.rules[code as usize % 128].side;
-        match side {
-            RightSide::Cut { .. } => {}
-            RightSide::Pair { left, right } => {
-                let split = code as usize / 128;
-                self.choose(board, codes, span.left(split), left);
-                self.choose(board, codes, span.right(split), right);
+        // what is still to be chosen, in any order: at most 24 spans, since no two of them have a place in common
+        let mut owed = ArrayVec::<Owed, 24>::new();
+        owed.push(Owed { span, part });
+        while let Some(next) = owed.pop() {
+            let code = self.choice(board, next.span, next.part);
+            put(codes, self.parts, next.span, next.part, code);
+            let side = self.rules[code as usize % 128].side;
+            match side {
+                RightSide::Cut { .. } => {}
+                RightSide::Pair { left, right } => {
+                    let split = code as usize / 128;
+                    owed.push(Owed {
+                        span: next.span.left(split),
+                        part: left,
+                    });
+                    owed.push(Owed {
+                        span: next.span.right(split),
+                        part: right,
+                    });
+                }
             }
+        }
+    }
+}
+
+// A part over a span whose codes are still to be written.
+#[derive(Clone, Copy)]
+struct Owed {
+    span: Span,
+    part: u8,
+}
+
+// What an empty place of the list holds. By hand, since a span has no default of its own.
+impl Default for Owed {
+    fn default() -> Owed {
+        Owed {
+            span: Span::new(0, 1),
+            part: 0,
         }
     }
 }

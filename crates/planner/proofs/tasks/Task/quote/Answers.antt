@@ -24,7 +24,7 @@ returns g c =
     let all : c.new-all.result.len ≡ n = omega arith in
     let least = c.in_ok-least.ensures.answer in
     let lawful = lawful_within laws c.in_ok-least.least a.limit c.requires.limit least.1 in
-    let named = c.choose.ensures.named in
+    let named = c.choose.ensures in
     let chosen : Chosen g.S.Scale.ops W rules shown 0 0 n named.0 = rw (none, all) at named.2 in
     let run = chosen_written laws W rules shown n c.new-all.result.before named.0 a.run.now c.trace.new.run none c.requires.run chosen (c.trace.ensures named.0 named.1) in
     quoted laws W rules n shown a.limit a.run.now c.trace.new.run c.in_ok-least.least named.0 chosen run least.0 least.1 lawful
