@@ -9,22 +9,22 @@ ghost use Rattle.derivations.specs.Ties.{OneChosen};
 
 use scale::Scale;
 
-// The cost of a run is the least weight of its derivations, and barred if it has none.
+/// The cost of a run is the least weight of its derivations, and barred if it has none.
 pub fn cost_is_least<S: Scale>()
     ensures { CostTheorem S.ops }
 {}
 
-// The least weight over a sheet is what its cheapest open run costs.
+/// The least weight over a sheet is what its cheapest open run costs.
 pub fn cheapest_is_least<S: Scale>()
     ensures { CheapestTheorem S.ops }
 {}
 
-// The tie rule takes one derivation at most.
+/// The tie rule takes one derivation at most.
 pub fn one_chosen<S: Scale>()
     ensures { OneChosen S.ops }
 {}
 
-// Some run within a limit has a stroke exactly where some cut of it is within the limit.
+/// Some run within a limit has a stroke exactly where some cut of it is within the limit.
 pub fn support_by_cuts<S: Scale>()
     ensures { SupportTheorem S.ops }
 {}

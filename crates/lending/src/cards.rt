@@ -10,7 +10,9 @@ ghost use Rattle.lending.specs.Cards.{only_card, exchanged_card};
 use crate::lent::{exchange_lent, only_lent, strike_lent};
 use refusal::Refusal;
 
-// Strikes a sheet on the card.
+/// Strikes a sheet on the card, at the place, counted from 1: a full stop stands where the letter stood.
+///
+/// Refused with 1, 2 or 3 (docs/REFUSALS.md); the card is then as it was.
 pub fn strike_card(card: &mut [u8], place: usize, stroke: u8) -> Result<(), Refusal>
     ensures answer { result ≡ struck (card_places card.old) (card_shown card.old) place stroke }
     ensures after { MatchResult result (λ _. card_shown card.new ≡ closed_at (card_shown card.old) place stroke) (λ _. card.new ≡ card.old) }
@@ -19,7 +21,7 @@ pub fn strike_card(card: &mut [u8], place: usize, stroke: u8) -> Result<(), Refu
     strike_lent(card, place, stroke)
 }
 
-// Closes every stroke of the place but the one.
+/// Closes every stroke of the place, counted from 1, but the one. The rows of other places are left as they are.
 pub fn only_card(card: &mut [u8], place: usize, stroke: u8)
     ensures pairs { card_shown card.new ≡ only_at (card_shown card.old) place stroke }
     ensures memory { card.new ≡ only_card card.old place stroke }
@@ -27,7 +29,8 @@ pub fn only_card(card: &mut [u8], place: usize, stroke: u8)
     only_lent(card, place, stroke);
 }
 
-// Closes the stroke at the place, if it is open there, and then opens the other one. Answers whether the stroke was open.
+/// Closes the stroke at the place, counted from 1, if it is open there, and then opens the other one. Answers whether the stroke
+/// was open; where it was not, the card is as it was.
 pub fn exchange_card(card: &mut [u8], place: usize, stroke: u8, other: u8) -> bool
     ensures answer { result ≡ card_shown card.old place stroke }
     ensures pairs { card_shown card.new ≡ exchanged (card_places card.old) (card_shown card.old) place stroke other }

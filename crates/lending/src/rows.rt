@@ -6,14 +6,14 @@ ghost use Rattle.lending.specs.RowLaws.{row_laws};
 
 use sheet::{Sheet, in_range};
 
-// For each stroke whether it is open at the place 1.
+/// A sheet of one place, in a row of its own: for each stroke whether it is open there.
 #[derive(Drop)]
 pub struct RowSheet {
     row: [bool; 26],
 }
 
 impl RowSheet {
-    // Every stroke is open.
+    /// The row on which every stroke is open.
     pub fn new() -> RowSheet
         ensures { result.row ≡ replicate 26 true }
     {

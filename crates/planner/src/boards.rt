@@ -17,7 +17,8 @@ pub(crate) fn entries(places: usize, parts: u8) -> usize
     places * (places + 1) / 2 * parts as usize
 }
 
-// How many entries a board has for a sheet and a book.
+/// How many entries a board needs for a sheet and a book: one for each span of its places and each part, n(n + 1)/2 × k at n places
+/// and k parts.
 pub fn board_entries<H: Sheet>(sheet: &H, book: &Book) -> usize
     ensures { result ≡ board_entries (H.places sheet.now) (parts_of book.now) }
 {

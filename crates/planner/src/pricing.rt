@@ -15,8 +15,10 @@ use refusal::Refusal;
 use scale::Scale;
 use sheet::{MaskSheet, Sheet};
 
-// What the run costs. Refused, in this order, for a run of no place or of more than 24, for a byte that is no stroke, for a board
-// that is too short, and for a run that is not lawful. What the board holds after an answer, or after the last of these, is free.
+/// What the run, of bytes `A` to `Z`, costs.
+///
+/// Refused with 6, 2, 8 or 10, tested in this order (docs/REFUSALS.md). The board is working memory, n(n + 1)/2 × k entries at n
+/// bytes and k parts: what it holds after an answer, or after 10, is free; after another refusal it is as it was.
 pub fn price<S: Scale>(book: &Book, run: &[u8], inside: &mut [S]) -> Result<S, Refusal>
     ensures answer { result ≡ priced S.ops book.now (price_refused (parts_of book.now) run.now (length inside.old)) run.now }
     ensures least { IfOk result (λ c. Costs S.ops (weights S.ops book.now) (rules_of book.now) run.now c × (c ≢ S.ops.barred)) }

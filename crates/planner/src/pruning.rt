@@ -13,16 +13,19 @@ use refusal::Refusal;
 use scale::Scale;
 use sheet::Sheet;
 
-// What a prune answers: the cost of the cheapest run over the open strokes, and how many strokes it closed.
+/// What a prune answers.
 #[derive(Clone, Copy, PartialEq, Eq, Debug)]
 pub struct Pruned<S> {
+    /// what the cheapest run over the open strokes costs
     pub least: S,
+    /// how many strokes were closed, of all places together
     pub closed: usize,
 }
 
-// Closes every open stroke that no run over the open strokes within the limit has at its place. Refused, in this order, for a
-// sheet without a place, for a barred limit, for a board that is too short, and where no run is within the limit; the sheet is
-// then as it was. The boards are working memory: what they hold after an answer, or after the last of these refusals, is free.
+/// Closes every open stroke that no run over the open strokes within the limit has at its place.
+///
+/// Refused with 6, 7, 8 or 10, tested in this order (docs/REFUSALS.md); the sheet is then as it was. The boards are working memory,
+/// `board_entries` each: what they hold after an answer, or after 10, is free; after another refusal they are as they were.
 pub fn prune<S: Scale, H: Sheet>(
     sheet: &mut H,
     book: &Book,
@@ -51,7 +54,7 @@ pub fn prune<S: Scale, H: Sheet>(
     }
 }
 
-// A prune ends in one way.
+/// A prune ends in one way: what it leaves open, the cost and the count follow from what it is given.
 pub fn one_pruned<S: Scale>()
     ensures { OnePruned S.ops }
 {}

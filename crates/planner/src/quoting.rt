@@ -13,10 +13,11 @@ use refusal::Refusal;
 use scale::Scale;
 use sheet::Sheet;
 
-// Writes the cheapest run over the open strokes into the lent run, by the tie rule, and answers its cost. Refused, in this
-// order, for a sheet without a place, for a barred limit, for a board that is too short, for a lent run that is too short, and
-// where no run is within the limit; the lent run is then as it was, and so are its bytes past the run where one is written. What
-// the boards hold after an answer, or after the last of these refusals, is free.
+/// Writes the cheapest run over the open strokes into the lent run, by the tie rule, and answers its cost. The bytes past the run
+/// are as they were.
+///
+/// Refused with 6, 7, 8, 9 or 10, tested in this order (docs/REFUSALS.md); the lent run is then as it was. The boards are working
+/// memory, `board_entries` each: what they hold after an answer, or after 10, is free; after another refusal they are as they were.
 pub fn quote<S: Scale, H: Sheet>(
     sheet: &H,
     book: &Book,
@@ -64,7 +65,7 @@ fn check_lent<S: Scale>(
     Ok(())
 }
 
-// A quote ends in one way.
+/// A quote ends in one way: the run and its cost follow from what it is given.
 pub fn one_quoted<S: Scale>()
     ensures { OneQuoted S.ops }
 {}

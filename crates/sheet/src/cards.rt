@@ -6,9 +6,9 @@ ghost use Rattle.sheet.specs.CardLaws.{card_laws};
 
 use crate::{Cell, LentSheet, in_range};
 
-// A sheet on the card that a caller lends. A stroke is open where its column holds its letter, and closed where it holds
-// any other byte. The 27th byte of a row, the rows after the 24th and a rest shorter than a row do not count, and do not
-// change.
+/// A sheet on the card that a caller lends: a row of 27 bytes for each place. A stroke is open where its column holds its
+/// letter, and closed where it holds any other byte. The 27th byte of a row, the rows after the 24th and a rest shorter than
+/// a row do not count, and do not change.
 pub type CardSheet<'a> = LentSheet<'a, u8>;
 
 impl Cell for u8 {

@@ -4,14 +4,14 @@ ghost use Rattle.sheet.specs.LentLaws.{lent_laws};
 
 use crate::{Cell, Sheet, in_range};
 
-// A sheet on the memory. What does not count in it does not change.
+/// A sheet on memory that a caller lends. What does not count in it does not change.
 #[derive(Drop)]
 pub struct LentSheet<'a, C> {
     memory: &'a mut [C],
 }
 
 impl<'a, C: Cell> LentSheet<'a, C> {
-    // A sheet on the memory as it is.
+    /// A sheet on the memory as it is.
     pub fn new(memory: &'a mut [C]) -> LentSheet<'a, C>
         ensures lender { result.memory.ghost_name ≡ memory.entry.ghost_name }
         ensures content { result.memory.now ≡ memory.old }

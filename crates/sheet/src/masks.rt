@@ -6,8 +6,8 @@ ghost use Rattle.sheet.specs.MaskLaws.{mask_laws};
 
 use crate::{Cell, LentSheet, in_range};
 
-// A sheet on the masks that a caller lends. The bits above the 26th and the numbers after the 24th do not count, and do
-// not change.
+/// A sheet on the masks that a caller lends: a number for each place, whose bits 0 to 25 say which of A to Z are open. The
+/// bits above the 26th and the numbers after the 24th do not count, and do not change.
 pub type MaskSheet<'a> = LentSheet<'a, u32>;
 
 impl Cell for u32 {

@@ -2,7 +2,7 @@
 ghost use Rattle.std.specs.Prelude.{◌≡◌};
 ghost use Rattle.sheet.specs.Pairs.{in_range};
 
-// Whether a sheet of that length has the place, and the byte is a stroke.
+/// Whether a sheet of that length has the place, counted from 1, and the byte is a stroke, `A` to `Z`.
 pub fn in_range(length: usize, place: usize, stroke: u8) -> bool
     ensures { result ≡ in_range length place stroke }
 {

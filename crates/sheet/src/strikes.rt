@@ -6,8 +6,9 @@ ghost use Rattle.sheet.specs.Strikes.{struck};
 use crate::Sheet;
 use refusal::Refusal;
 
-// Closes the stroke at the place. Refused, in this order, for a place that the sheet does not have, for a byte that is no
-// stroke and for a stroke that is not open there; the sheet is then as it was.
+/// Closes the stroke, a byte `A` to `Z`, at the place, counted from 1.
+///
+/// Refused with 1, 2 or 3, tested in this order (docs/REFUSALS.md); the sheet is then as it was.
 pub fn strike<S: Sheet>(sheet: &mut S, place: usize, stroke: u8) -> Result<(), Refusal>
     ensures answer { result ≡ struck (S.places sheet.old) (S.shown sheet.old) place stroke }
     ensures after { MatchResult result (λ _. S.shown sheet.new ≡ closed_at (S.shown sheet.old) place stroke) (λ _. sheet.new ≡ sheet.old) }

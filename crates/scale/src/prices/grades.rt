@@ -4,7 +4,7 @@ ghost use Rattle.scale.specs.Barred.{barred_level};
 
 use crate::Scale;
 
-// A grade, which is a blade heat. The largest number is barred, and 0 is free.
+/// A grade, which is the number of a blade heat, from 0, which is free, to 255, which is barred.
 #[derive(Clone, Copy, PartialEq, Eq, PartialOrd, Ord, Debug)]
 pub struct Grade {
     level: u8,
@@ -14,14 +14,14 @@ pub struct Grade {
 impl Grade {
     ghost use Rattle.scale.specs.Grades.{grade_of};
 
-    // The blade heat of this number, and barred at the largest.
+    /// The blade heat of this number; 255 is the barred grade.
     pub fn new(level: u8) -> Grade
         ensures { result ≡ grade_of level }
     {
         Grade { level }
     }
 
-    // The number of the blade heat; 255 where this is barred.
+    /// The number of the blade heat; 255 where this is barred.
     pub fn level(self) -> u8
         ensures { result ≡ self.level }
     {

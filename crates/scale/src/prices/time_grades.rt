@@ -4,8 +4,8 @@ ghost use Rattle.scale.specs.Barred.{barred_tenths, barred_level};
 
 use crate::Scale;
 
-// A time in tenths of a second, and a grade. Where one part is the barred number so is the other: there is one barred pair.
-// Pairs go by their time, and at equal time by their grade: the order of the fields is the order that is derived.
+/// A time in tenths of a second, and a grade. Where one part is the barred number so is the other: there is one barred pair.
+/// Pairs go by their time, and at equal time by their grade: the order of the fields is the order that is derived.
 #[derive(Clone, Copy, PartialEq, Eq, PartialOrd, Ord, Debug)]
 pub struct TimeGrade {
     tenths: u32,
@@ -18,7 +18,7 @@ pub struct TimeGrade {
 impl TimeGrade {
     ghost use Rattle.scale.specs.TimeGrades.{time_grade};
 
-    // The pair of a time and a grade, or the one barred pair where a part is barred.
+    /// The pair of a time in tenths of a second and a grade; the one barred pair where either part is barred.
     pub fn new(tenths: u32, level: u8) -> TimeGrade
         ensures { result ≡ time_grade tenths level }
     {
@@ -32,14 +32,14 @@ impl TimeGrade {
         }
     }
 
-    // The tenths of a second; 4294967295 where this is barred.
+    /// The tenths of a second; 4294967295 where this is barred.
     pub fn tenths(self) -> u32
         ensures { result ≡ self.tenths }
     {
         self.tenths
     }
 
-    // The number of the blade heat; 255 where this is barred.
+    /// The number of the blade heat; 255 where this is barred.
     pub fn level(self) -> u8
         ensures { result ≡ self.level }
     {

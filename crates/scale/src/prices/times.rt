@@ -4,7 +4,7 @@ ghost use Rattle.scale.specs.Barred.{barred_tenths};
 
 use crate::Scale;
 
-// A time in tenths of a second. The largest number is barred, and 0 is free.
+/// A time in tenths of a second, from 0, which is free, to 4294967295, which is barred.
 #[derive(Clone, Copy, PartialEq, Eq, PartialOrd, Ord, Debug)]
 pub struct Time {
     tenths: u32,
@@ -14,14 +14,14 @@ pub struct Time {
 impl Time {
     ghost use Rattle.scale.specs.Times.{time};
 
-    // So many tenths of a second, and barred at the largest number.
+    /// So many tenths of a second; 4294967295 is the barred time.
     pub fn new(tenths: u32) -> Time
         ensures { result ≡ time tenths }
     {
         Time { tenths }
     }
 
-    // The tenths of a second; 4294967295 where this is barred.
+    /// The tenths of a second; 4294967295 where this is barred.
     pub fn tenths(self) -> u32
         ensures { result ≡ self.tenths }
     {
