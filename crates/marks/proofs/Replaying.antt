@@ -20,7 +20,7 @@ use Rattle.events.proofs.Searching.{any_more, any_within}
 use Rattle.events.specs.Searches.{any_event}
 use Rattle.marks.proofs.Keeping.{same_then, same_setting}
 use Rattle.marks.specs.declared.marked.Marked.{Marked}
-use Rattle.marks.specs.Marks.{SameSheet, state, setting}
+use Rattle.marks.specs.Marks.{SameSheet, setting, sheet_below, state}
 use Rattle.marks.specs.Replays.{Replayed, each_lent}
 
 -- what is left of a sheet less strikes was open at its birth
@@ -74,15 +74,15 @@ module _ {S : Type 0} {o : Ops S} (laws : Laws o) where
 
     -- the life of the marked sheet so far
     abbrev pub Lived : List (Event S) → List (Result (Accepted S) Refusal) → Marked H → Ledger S → Type 0
-    Lived events answers m g = HasLived o w (shown start.below.now) (each_lent lent events) answers (state places shown m) g
+    Lived events answers m g = HasLived o w (shown (sheet_below start)) (each_lent lent events) answers (state places shown m) g
 
     -- the sheet is the same through both
     pub same_through : (events : List (Event S)) (answers : List (Result (Accepted S) Refusal)) (g : Ledger S) → Lived events answers was g → SameSheet kept start now
     same_through events answers g lived =
-        same_then sheets start was same now (lived_inside w (shown start.below.now) (each_lent lent events) answers (state places shown was) g lived) then
+        same_then sheets start was same now (lived_inside w (shown (sheet_below start)) (each_lent lent events) answers (state places shown was) g lived) then
 
     pub lived_on : (events more : List (Event S)) (answers longer : List (Result (Accepted S) Refusal)) (g : Ledger S) (e : Event S) (a : Result (Accepted S) Refusal) (lent' : Lent) → Lived events answers was g → lent' ≡ lent → Step o (setting o places book was) (state places shown was) e lent' a (state places shown now) → more ≡ events ++ e ∷ [] → longer ≡ answers ++ a ∷ [] → Lived more longer now (enter g e (is_ok a))
     lived_on events more answers longer g e a lent' lived same_lent step em el =
         let step' = subst₂ (λ w l. Step o w (state places shown was) e l a (state places shown now)) (same_setting sheets start was same o book) same_lent step in
-        let on = lives_one_more o w (born (shown start.below.now)) (state places shown was) (state places shown now) ledger_at_birth g (each_lent lent events) answers e lent a lived step' in
+        let on = lives_one_more o w (born (shown (sheet_below start))) (state places shown was) (state places shown now) ledger_at_birth g (each_lent lent events) answers e lent a lived step' in
         rw (em, el, map-append {B = Event S × Lent} (λ e. (e, lent)) events (e ∷ [])) on
