@@ -12,7 +12,7 @@ use Rattle.events.specs.declared.Accepted.{Accepted}
 use Rattle.events.specs.States.{State, LeadsTo, earlier, fits, left_by, after_strike, after_mark, after_keep, after_back, latest}
 use Rattle.events.specs.Steps.{Setting, Lent, QuoteEnds}
 use Rattle.marks.specs.declared.marked.Marked.{Marked}
-use Rattle.marks.specs.Marks.{state}
+use Rattle.marks.specs.Marks.{sheet_below, state}
 use Rattle.guessing.specs.Guesses.{QuoteEndsWithout, state_struck, struck_both}
 use Rattle.marks.proofs.Keeping.{Fewer}
 
@@ -52,12 +52,12 @@ module _ {H : Type 0} (places : H → ℕ) (shown : H → Pairs) (m m' : Marked 
   -- a strike closed its pair, or was refused
   abbrev pub Struck : Type 0
   Struck =
-      (state places shown m' ≡ state_struck (places m.below.now) (state places shown m) p c)
-      × (r ≡ struck (places m.below.now) (shown m.below.now) p c)
+      (state places shown m' ≡ state_struck (places (sheet_below m)) (state places shown m) p c)
+      × (r ≡ struck (places (sheet_below m)) (shown (sheet_below m)) p c)
 
-  pub struck_as : LeadsTo (λ e. e) (after_strike (places m.below.now) (state places shown m) p c) r (state places shown m') → OnErr r (m' ≡ m) → Struck
+  pub struck_as : LeadsTo (λ e. e) (after_strike (places (sheet_below m)) (state places shown m) p c) r (state places shown m') → OnErr r (m' ≡ m) → Struck
   struck_as h e =
-      left_as (struck (places m.below.now) (shown m.below.now) p c) r (state places shown m) (state places shown m') _ (m' ≡ m) h e (λ e. ap (λ m. state places shown m) e)
+      left_as (struck (places (sheet_below m)) (shown (sheet_below m)) p c) r (state places shown m) (state places shown m') _ (m' ≡ m) h e (λ e. ap (λ m. state places shown m) e)
 
 -- which has no pair more
 pub struck_fewer : (n : ℕ) (s t : State) (p c : ℕ) → t ≡ state_struck n s p c → Fewer s.shown t.shown

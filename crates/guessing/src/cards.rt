@@ -12,7 +12,7 @@ use book::Book;
 use refusal::Refusal;
 use scale::Scale;
 
-// The quote without a pair, of a sheet on the card.
+/// `quote_without`, of a sheet on the card, 27 bytes for each place: a column for each stroke, and a line end. It is refused as that is.
 pub fn quote_without_card<S: Scale>(
     card: &mut [u8],
     number: u16,

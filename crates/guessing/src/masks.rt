@@ -12,7 +12,7 @@ use book::Book;
 use refusal::Refusal;
 use scale::Scale;
 
-// The quote without a pair, of a sheet on the masks.
+/// `quote_without`, of a sheet on the masks, a number for each place: the bit 0 is A, the bit 25 is Z. It is refused as that is.
 pub fn quote_without_masks<S: Scale>(
     masks: &mut [u32],
     number: u16,

@@ -1,14 +1,15 @@
 // A mark under a mark: the later one ends first.
 ghost use Rattle.std.specs.Prelude.{◌≡◌, length, true};
 ghost use Rattle.events.specs.States.{born, earlier, fits};
-ghost use Rattle.marks.specs.Marks.{SameSheet, state};
+ghost use Rattle.marks.specs.Marks.{SameSheet, sheet_below, sheet_number, state};
 ghost use Rattle.guessing.specs.Guesses.{state_ended, struck_both};
 
 use marks::{Marked, Slip};
 use refusal::Refusal;
 use sheet::Sheet;
 
-// Whether the two strikes are accepted, the one after the other, or why the first that is refused is. The sheet is as it was.
+/// Whether the two strikes are accepted, the one after the other, or why the first that is refused is, with 1, 2 or 3. Places count from
+/// 1. The sheet is left as it was.
 pub fn strikes_accepted<H: Sheet>(
     sheet: &mut H,
     number: u16,
@@ -34,8 +35,8 @@ fn try_both<H: Sheet>(
     other_place: usize,
     other_stroke: u8,
 ) -> Result<(), Refusal>
-    requires { state H.places H.shown marked.old ≡ born (H.shown marked.old.below.now) }
-    ensures answer { result ≡ struck_both (H.places marked.old.below.now) (H.shown marked.old.below.now) place stroke other_place other_stroke }
+    requires { state H.places H.shown marked.old ≡ born (H.shown (sheet_below marked.old)) }
+    ensures answer { result ≡ struck_both (H.places (sheet_below marked.old)) (H.shown (sheet_below marked.old)) place stroke other_place other_stroke }
     ensures state { state H.places H.shown marked.new ≡ state H.places H.shown marked.old }
     ensures sheet { SameSheet H.kept marked.old marked.new }
 {
@@ -49,8 +50,8 @@ fn try_both<H: Sheet>(
 
 // Keeps the latest mark, and goes back to the one before it.
 fn end_both<H: Sheet>(marked: &mut Marked<H>, first: Slip, second: Slip)
-    requires second { fits marked.old.marks.number (length (state H.places H.shown marked.old).saved) second.number second.level ≡ true }
-    requires first { fits marked.old.marks.number (length (earlier (state H.places H.shown marked.old).saved)) first.number first.level ≡ true }
+    requires second { fits (sheet_number marked.old) (length (state H.places H.shown marked.old).saved) second.number second.level ≡ true }
+    requires first { fits (sheet_number marked.old) (length (earlier (state H.places H.shown marked.old).saved)) first.number first.level ≡ true }
     ensures state { state H.places H.shown marked.new ≡ state_ended (state H.places H.shown marked.old) }
     ensures sheet { SameSheet H.kept marked.old marked.new }
 {
