@@ -1,7 +1,7 @@
 mod Refusing
 mod Leaving
 mod Quoting
-mod Joining
-pub mod Telling
 mod Carding
+mod Lengths
+mod Bounding
 mod Uniqueness

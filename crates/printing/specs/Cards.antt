@@ -1,38 +1,46 @@
 -- A card that is pruned, and its rows as they are printed. Assumes nothing.
-use Rattle.std.specs.Prelude.{◌≡◌, ℕ, ◌*◌, ◌/◌, min, List, ◌++◌, length, take, drop}
+use Rattle.std.specs.Prelude.{◌≡◌, ℕ, ◌*◌, ◌/◌, min, List, ◌++◌, length, take, drop, Option, Some, None}
 use Rattle.scale.specs.Ops.{Ops}
-use Rattle.book.specs.declared.rules.Rule.{Rule}
 use Rattle.refusal.specs.declared.Fault.{Fault}
+use Rattle.refusal.specs.declared.Source.{Source}
+use Rattle.book.specs.declared.books.Book.{Book}
 use Rattle.sheet.specs.Cards.{card_places, card_shown, CardRest}
-use Rattle.derivations.specs.Trees.{prices}
-use Rattle.planner.specs.Outcomes.{PrunedTo}
-use Rattle.printing.specs.Bounds.{bound_of}
-use Rattle.printing.specs.Refusals.{BookTold, OrderTold, SheetRefused, FirstRefused}
+use Rattle.report.specs.ReportSaid.{ReportSaid}
+use Rattle.report.specs.Prices.{bound_of}
+use Rattle.report.specs.Told.{Told, FirstRefused}
+use Rattle.report.specs.Reports.{Reports}
+use Rattle.printing.specs.Refusals.{SheetRefused}
+use Rattle.printing.specs.Prunes.{PrunedBy}
 
 -- the rows of a card that count: the first 16 whole ones, 27 bytes each
 abbrev pub counted : List ℕ → List ℕ
 counted card = take (27 * min (length card / 27) 16) card
 
--- the card's rows are pruned and printed, and the card is `after` then
-pub record CardPrinted {S : Type 0} (o : Ops S) (limit : S) (rules : List Rule) (card bytes after : List ℕ) : Type 0 where
-  pub least : S
-  pub closed : ℕ
-  pub pruned : PrunedTo o (prices o rules) rules (card_places (counted card)) (card_shown (counted card)) limit (card_shown bytes) least closed
-  -- what is printed is the rows, byte for byte as they were, but for the columns whose strokes are closed
-  pub redrawn : CardRest (counted card) bytes
-  -- and so the card holds them; past them it is as it was
-  pub memory : after ≡ bytes ++ drop (length bytes) card
+-- the card with these bytes in place of its first ones
+abbrev pub held : List ℕ → List ℕ → List ℕ
+held bytes card = bytes ++ drop (length bytes) card
 
--- a card is printed in one way only, and holds one text then
-abbrev pub OneCardPrint : {S : Type 0} → Ops S → Type 0
-OneCardPrint {S} o =
-    (limit : S) (rules : List Rule) (card one two after other : List ℕ) → CardPrinted o limit rules card one after → CardPrinted o limit rules card two other → (one ≡ two) × (after ≡ other)
+-- the bytes are the card's rows, pruned within the limit
+pub record CardPrinted {S : Type 0} (o : Ops S) (limit : S) (b : Book) (card bytes : List ℕ) : Type 0 where
+  pub pruned : PrunedBy o limit b (card_places (counted card)) (card_shown (counted card)) (card_shown bytes)
+  -- byte for byte as they were, but for the columns whose strokes are closed
+  pub redrawn : CardRest (counted card) bytes
 
 module _ (book card order : List ℕ) where
   -- both texts are told, and the card is pruned within the order's limit
-  abbrev pub CardTold : (after bytes : List ℕ) → Type 0
-  CardTold after bytes = (b : BookTold book) × (o : OrderTold order) × CardPrinted (bound_of o.limit).ops (bound_of o.limit).limit b.rules card bytes after
+  abbrev pub CardTold : List ℕ → Type 0
+  CardTold bytes = Told book order (λ b l places. CardPrinted (bound_of l).ops (bound_of l).limit b card bytes)
 
   -- a fault of the book, of the order, or of the sheet of the card's rows
   abbrev pub CardRefused : Fault → Type 0
-  CardRefused f = FirstRefused book order (λ b o f. SheetRefused (bound_of o.limit).ops (bound_of o.limit).limit b.rules (card_places (counted card)) (card_shown (counted card)) f) f
+  CardRefused f = FirstRefused book order (λ b l places f. SheetRefused (bound_of l).ops (bound_of l).limit b (card_places (counted card)) (card_shown (counted card)) f) f
+
+  -- what the card holds then: the rows that are printed, and what does not count; where something is refused, what it held
+  abbrev pub card_after : List ℕ → Option Source → List ℕ
+  card_after bytes None = held bytes card
+  card_after bytes (Some s) = card
+
+  -- what is said of a card, and what it holds then
+  pub record CardReport (r : ReportSaid) (after : List ℕ) : Type 0 where
+    pub says : Reports book order CardTold CardRefused r
+    pub holds : after ≡ card_after r.text r.refused

@@ -1,6 +1,4 @@
-pub mod Bounds
 pub mod Refusals
+pub mod Prunes
 pub mod Quotes
 pub mod Cards
-pub mod Reports
-pub mod Steps

@@ -1,60 +1,75 @@
-// The prune of a sheet, on boards from the allocator.
-ghost use Rattle.std.specs.Prelude.{◌≡◌, false, OnErr};
-ghost use Rattle.book.specs.BookSaid.{rules_of};
+// The prune of a sheet, on boards that are local arrays.
+ghost use Rattle.std.specs.Prelude.{◌≡◌, ◌≤◌, false, length, MatchResult, OnErr};
+ghost use Rattle.book.specs.BookSaid.{parts_of, rules_of};
 ghost use Rattle.order.specs.Statements.{ShortLimit, InRange};
 ghost use Rattle.derivations.specs.Trees.{weights};
+ghost use Rattle.planner.specs.Boards.{board_entries};
 ghost use Rattle.planner.specs.Outcomes.{PrunedTo};
 ghost use Rattle.printing.specs.Refusals.{SheetRefused};
-ghost use Rattle.printing.specs.Steps.{MadeOr, PruneEnds};
+ghost use Rattle.printing.specs.Prunes.{PruneEnds};
 
-use crate::failures::Failure;
 use book::Book;
 use order::Limit;
-use planner::{Pruned, board_entries, prune};
+use planner::{Pruned, prune};
+use refusal::Fault;
 use scale::{Grade, Scale, Time, TimeGrade};
 use sheet::Sheet;
-use std::alloc::Global;
+
+// How many entries a board has for the 16 places of an order and the 32 parts of a book, the most that there are.
+pub(crate) const ENTRIES: usize = 16 * 17 / 2 * 32;
 
 // Prunes the sheet within a limit of any scale.
 pub(crate) fn prune_on<S: Scale, H: Sheet>(
-    heap: Global,
     book: &Book,
     sheet: &mut H,
     limit: S,
-) -> Result<Pruned<S>, Failure>
+    inside: &mut [S],
+    outside: &mut [S],
+) -> Result<Pruned<S>, Fault>
     requires open { S.ops.le S.ops.barred limit ≡ false }
-    ensures answer { MadeOr (λ p. PrunedTo S.ops (weights S.ops book.now) (rules_of book.now) (H.places sheet.old) (H.shown sheet.old) limit (H.shown sheet.new) p.least p.closed) (SheetRefused S.ops limit (rules_of book.now) (H.places sheet.old) (H.shown sheet.old)) result }
+    requires inside { board_entries (H.places sheet.old) (parts_of book.now) ≤ length inside.old }
+    requires outside { board_entries (H.places sheet.old) (parts_of book.now) ≤ length outside.old }
+    ensures answer { MatchResult result (λ p. PrunedTo S.ops (weights S.ops book.now) (rules_of book.now) (H.places sheet.old) (H.shown sheet.old) limit (H.shown sheet.new) p.least p.closed) (SheetRefused S.ops limit book.now (H.places sheet.old) (H.shown sheet.old)) }
     ensures sheet { OnErr result (sheet.new ≡ sheet.old) }
     ensures memory { H.kept sheet.old sheet.new }
 {
-    let room = board_entries(sheet, book);
-    let mut inside = vec![in heap; S::barred(); room]?;
-    let mut outside = vec![in heap; S::barred(); room]?;
-    Ok(prune(sheet, book, limit, &mut inside, &mut outside)?)
+    match prune(sheet, book, limit, inside, outside) {
+        Ok(pruned) => Ok(pruned),
+        Err(refusal) => Err(Fault::of_sheet(refusal)),
+    }
 }
 
 // Prunes the sheet within the limit of an order, at the scale that it names.
-pub(crate) fn prune_by<H: Sheet>(
-    heap: Global,
-    book: &Book,
-    sheet: &mut H,
-    limit: Limit,
-) -> Result<(), Failure>
+pub(crate) fn prune_by<H: Sheet>(book: &Book, sheet: &mut H, limit: Limit) -> Result<(), Fault>
     requires short { ShortLimit limit }
     requires ranged { InRange limit }
-    ensures answer { PruneEnds limit (rules_of book.now) (H.places sheet.old) (H.shown sheet.old) (H.shown sheet.new) result }
+    requires places { H.places sheet.old ≤ 16 }
+    requires parts { parts_of book.now ≤ 32 }
+    ensures answer { PruneEnds limit book.now (H.places sheet.old) (H.shown sheet.old) (H.shown sheet.new) result }
     ensures sheet { OnErr result (sheet.new ≡ sheet.old) }
     ensures memory { H.kept sheet.old sheet.new }
 {
     match limit {
         Limit::Time(time) => {
-            prune_on(heap, book, sheet, Time::new(time))?;
+            let mut inside = [Time::new(0); ENTRIES];
+            let mut outside = [Time::new(0); ENTRIES];
+            prune_on(book, sheet, Time::new(time), &mut inside, &mut outside)?;
         }
         Limit::Grade(grade) => {
-            prune_on(heap, book, sheet, Grade::new(grade))?;
+            let mut inside = [Grade::new(0); ENTRIES];
+            let mut outside = [Grade::new(0); ENTRIES];
+            prune_on(book, sheet, Grade::new(grade), &mut inside, &mut outside)?;
         }
         Limit::Both { time, grade } => {
-            prune_on(heap, book, sheet, TimeGrade::new(time, grade))?;
+            let mut inside = [TimeGrade::new(0, 0); ENTRIES];
+            let mut outside = [TimeGrade::new(0, 0); ENTRIES];
+            prune_on(
+                book,
+                sheet,
+                TimeGrade::new(time, grade),
+                &mut inside,
+                &mut outside,
+            )?;
         }
     }
     Ok(())

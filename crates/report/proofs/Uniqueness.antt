@@ -126,7 +126,27 @@ module _ (book_text order_text : List ℕ) where
         (λ (h : Told book_text order_text (λ b l places. OfSheet b l places f)). one_of_sheet h.0 h.1 h.2 f g h.4 (past_order g h.0 h.1 h.2 h.3 y)))
         x
 
-    -- a report of what both texts tell says one thing
+    -- a report of what both texts tell says one thing, also where what is printed and refused are apart by what the texts tell
+    pub one_report_of_told : (Prints : List ℕ → Book → Limit → List (List ℕ) → Type 0)
+        → ((b : Book) (l : Limit) (places : List (List ℕ)) (bs cs : List ℕ) → Prints bs b l places → Prints cs b l places → bs ≡ cs)
+        → ((b : Book) (l : Limit) (places : List (List ℕ)) (f g : Fault) → OfSheet b l places f → OfSheet b l places g → f ≡ g)
+        → ((b : Book) (l : Limit) (places : List (List ℕ)) → Tells book_text order_text b l places → (bs : List ℕ) (f : Fault) → Prints bs b l places → OfSheet b l places f → ⊥)
+        → (r q : ReportSaid)
+        → Reports book_text order_text (λ bytes. Told book_text order_text (Prints bytes)) (FirstRefused book_text order_text OfSheet) r
+        → Reports book_text order_text (λ bytes. Told book_text order_text (Prints bytes)) (FirstRefused book_text order_text OfSheet) q
+        → r ≡ q
+    one_report_of_told Prints one_text one_of_sheet apart r q h k =
+        one_report book_text order_text (λ bytes. Told book_text order_text (Prints bytes)) (FirstRefused book_text order_text OfSheet)
+        (λ bs cs x y.
+        let e = one_told x.0 y.0 x.1 y.1 x.2 y.2 x.3 y.3 in
+        one_text y.0 y.1 y.2 bs cs (subst (λ b. Prints bs b y.1 y.2) e.0 (subst (λ l. Prints bs x.0 l y.2) e.1 (subst (λ ps. Prints bs x.0 x.1 ps) e.2 x.4))) y.4)
+        (one_first_refused one_of_sheet)
+        (λ bs f x y. apart x.0 x.1 x.2 x.3 bs f x.4 (past_order f x.0 x.1 x.2 x.3 y))
+        r
+        q
+        h
+        k
+
     pub one_told_report : (Prints : List ℕ → Book → Limit → List (List ℕ) → Type 0)
         → ((b : Book) (l : Limit) (places : List (List ℕ)) (bs cs : List ℕ) → Prints bs b l places → Prints cs b l places → bs ≡ cs)
         → ((b : Book) (l : Limit) (places : List (List ℕ)) (f g : Fault) → OfSheet b l places f → OfSheet b l places g → f ≡ g)
@@ -135,14 +155,4 @@ module _ (book_text order_text : List ℕ) where
         → Reports book_text order_text (λ bytes. Told book_text order_text (Prints bytes)) (FirstRefused book_text order_text OfSheet) r
         → Reports book_text order_text (λ bytes. Told book_text order_text (Prints bytes)) (FirstRefused book_text order_text OfSheet) q
         → r ≡ q
-    one_told_report Prints one_text one_of_sheet apart r q h k =
-        one_report book_text order_text (λ bytes. Told book_text order_text (Prints bytes)) (FirstRefused book_text order_text OfSheet)
-        (λ bs cs x y.
-        let e = one_told x.0 y.0 x.1 y.1 x.2 y.2 x.3 y.3 in
-        one_text y.0 y.1 y.2 bs cs (subst (λ b. Prints bs b y.1 y.2) e.0 (subst (λ l. Prints bs x.0 l y.2) e.1 (subst (λ ps. Prints bs x.0 x.1 ps) e.2 x.4))) y.4)
-        (one_first_refused one_of_sheet)
-        (λ bs f x y. apart x.0 x.1 x.2 bs f x.4 (past_order f x.0 x.1 x.2 x.3 y))
-        r
-        q
-        h
-        k
+    one_told_report Prints one_text one_of_sheet apart r q h k = one_report_of_told Prints one_text one_of_sheet (λ b l places t. apart b l places) r q h k
