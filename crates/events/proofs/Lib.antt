@@ -4,4 +4,5 @@ pub mod Narrowing
 pub mod Holding
 pub mod Living
 pub mod Lengthening
+pub mod Searching
 pub mod Uniqueness

@@ -1,5 +1,5 @@
 -- A life that goes on by one event more, on the same marked sheet.
-use Rattle.std.proofs.Common.{◌≡◌, ℕ, ◌+◌, true, List, [], ◌∷◌, ◌++◌, length, Result, ap, sym, subst₂, refl, arith, drop, zero, suc, ◌∙◌}
+use Rattle.std.proofs.Common.{◌≡◌, ℕ, ◌+◌, Bool, true, false, ◌||◌, List, [], ◌∷◌, ◌++◌, length, Result, ap, ap₂, sym, subst₂, refl, arith, drop, zero, suc, ◌∙◌}
 use Rattle.std.specs.Prelude.{take, slice_set, is_ok}
 use Rattle.std.proofs.lemmas.List.{map-append, drop-set-lt, take_all}
 use Rattle.scale.specs.Ops.{Ops, Laws}
@@ -16,6 +16,8 @@ use Rattle.events.specs.Ledgers.{Ledger, ledger_at_birth, enter, less}
 use Rattle.events.specs.Lives.{HasLived, QuotesAsAtBirth}
 use Rattle.events.proofs.Living.{life_good, good_at_birth, quotes_as_at_birth}
 use Rattle.events.proofs.Lengthening.{lives_one_more}
+use Rattle.events.proofs.Searching.{any_more, any_within}
+use Rattle.events.specs.Searches.{any_event}
 use Rattle.marks.proofs.Keeping.{same_then, same_setting}
 use Rattle.marks.specs.declared.marked.Marked.{Marked}
 use Rattle.marks.specs.Marks.{SameSheet, state, setting}
@@ -37,6 +39,20 @@ past_by_one xs i = let e : i + 1 ≡ suc i = omega arith in ap (λ n. drop n xs)
 -- what stands past the index of a write is as it was
 pub still_past : {X : Type 0} (xs ys : List X) (i : ℕ) (x : X) → drop i xs ≡ drop i ys → drop (i + 1) (slice_set xs i x) ≡ drop (i + 1) ys
 still_past xs ys i x e = drop-set-lt (i + 1) xs i x (omega arith) ∙ past_by_one xs i ∙ ap (drop 1) e ∙ sym (past_by_one ys i)
+
+neither : (a b : Bool) → (a || b) ≡ false → (a ≡ false) × (b ≡ false)
+neither a b h = grind arith
+
+-- a board is as it was as long as nothing in the list searched on it
+module _ {S B : Type 0} (such : Event S → Result (Accepted S) Refusal → Bool) (start : B) where
+  pub idle_on : (events more : List (Event S)) (answers longer : List (Result (Accepted S) Refusal)) (e : Event S) (a : Result (Accepted S) Refusal) → length events ≡ length answers → more ≡ events ++ e ∷ [] → longer ≡ answers ++ a ∷ [] → (was now : B) → (any_event such events answers ≡ false → was ≡ start) → (such e a ≡ false → now ≡ was) → any_event such more longer ≡ false → now ≡ start
+  idle_on events more answers longer e a same em el was now so_far call idle =
+      let none = neither (any_event such events answers) (such e a) (sym (ap₂ (any_event such) em el ∙ any_more such events answers e a same) ∙ idle) in
+      call none.1 ∙ so_far none.0
+
+  pub idle_all : (events : List (Event S)) (answers : List (Result (Accepted S) Refusal)) (i : ℕ) (now : B) → i ≡ length events → (any_event such (take i events) (take i answers) ≡ false → now ≡ start) → any_event such events answers ≡ false → now ≡ start
+  idle_all events answers i now e so_far idle =
+      so_far (ap₂ (any_event such) (ap (λ n. take n events) e ∙ take_all (length events) events (omega arith)) (ap (λ n. take n answers) e) ∙ any_within such events answers ∙ idle)
 
 module _ {S : Type 0} {o : Ops S} (laws : Laws o) where
   -- whatever happens to a sheet, what is open was open at its birth

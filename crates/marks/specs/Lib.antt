@@ -1,3 +1,5 @@
 pub mod Copies
+pub mod Slips
 pub mod Marks
+pub mod Lives
 pub mod Replays

@@ -3,12 +3,13 @@
 
 mod calls;
 mod copies;
+mod lives;
 mod marked;
-mod plays;
 mod replays;
 mod slips;
 mod standing;
 
+pub use lives::Life;
 pub use marked::Marked;
 pub use replays::replay;
 pub use slips::{Returned, Slip};

@@ -3,7 +3,7 @@ ghost use Rattle.std.specs.Prelude.{◌≡◌, OnErr, IfOk, IfErr, length};
 ghost use Rattle.sheet.specs.LentLaws.{lent_laws};
 ghost use Rattle.events.specs.States.{LeadsTo, born, after_mark, after_keep, after_back};
 ghost use Rattle.marks.specs.Copies.{copied};
-ghost use Rattle.marks.specs.Marks.{SameSheet, sheet_number, state};
+ghost use Rattle.marks.specs.Marks.{SameSheet, lender, sheet_below, sheet_number, standing_marks, state};
 ghost use Rattle.sheet.specs.Masks.{mask_places, mask_shown};
 
 use crate::copies::copy;
@@ -12,8 +12,8 @@ use crate::standing::StandingMarks;
 use refusal::Refusal;
 use sheet::{MaskSheet, Sheet};
 
-// A sheet with marks. It means the open pairs of the sheet below, and for each mark that stands the open pairs as they were when
-// it was set; at most eight stand. It is born with no mark.
+/// A sheet with marks. It means the open pairs of the sheet below, and for each mark that stands the open pairs as they were when
+/// it was set; at most eight stand. It is born with no mark.
 #[derive(Drop)]
 pub struct Marked<'a, H> {
     pub(crate) below: &'a mut H,
@@ -21,10 +21,10 @@ pub struct Marked<'a, H> {
 }
 
 impl<'a, H: Sheet> Marked<'a, H> {
-    // A marked sheet over the sheet. Users give a sheet number to one sheet only.
+    /// A marked sheet over the sheet, which stays as it is. Users give a sheet number to one sheet only.
     pub fn new(below: &'a mut H, number: u16) -> Marked<'a, H>
-        ensures lender { result.below.ghost_name ≡ below.entry.ghost_name }
-        ensures content { result.below.now ≡ below.old }
+        ensures lender { lender result ≡ below.entry.ghost_name }
+        ensures content { sheet_below result ≡ below.old }
         ensures number { sheet_number result ≡ number }
         ensures born { state H.places H.shown result ≡ born (H.shown below.old) }
     {
@@ -34,11 +34,12 @@ impl<'a, H: Sheet> Marked<'a, H> {
         }
     }
 
-    // Sets a mark, and hands out its slip. Refused where eight stand, and in no other case.
+    /// Sets a mark, and hands out its slip; the open pairs stay. Refused with 4 where eight stand, and in no other case; the marked
+    /// sheet is then as it was.
     pub fn mark(&mut self) -> Result<Slip, Refusal>
         ensures state { LeadsTo (λ e. e) (after_mark (state H.places H.shown self.old)) result (state H.places H.shown self.new) }
         ensures refused { OnErr result (self.new ≡ self.old) }
-        ensures below { self.new.below ≡ self.old.below }
+        ensures below { sheet_below self.new ≡ sheet_below self.old }
         ensures slip { IfOk result (λ s. (s.number ≡ sheet_number self.old) × (s.level ≡ length (state H.places H.shown self.new).saved)) }
         ensures sheet { SameSheet H.kept self.old self.new }
     {
@@ -53,7 +54,7 @@ impl<'a, H: Sheet> Marked<'a, H> {
     pub(crate) fn set_mark(&mut self) -> Result<usize, Refusal>
         ensures state { LeadsTo (λ e. e) (after_mark (state H.places H.shown self.old)) result (state H.places H.shown self.new) }
         ensures refused { OnErr result (self.new ≡ self.old) }
-        ensures below { self.new.below ≡ self.old.below }
+        ensures below { sheet_below self.new ≡ sheet_below self.old }
         ensures level { IfOk result (λ l. l ≡ length (state H.places H.shown self.new).saved) }
         ensures sheet { SameSheet H.kept self.old self.new }
     {
@@ -65,13 +66,13 @@ impl<'a, H: Sheet> Marked<'a, H> {
         Ok(self.marks.rows.len())
     }
 
-    // Ends the latest mark and leaves the open pairs alone. Refused, with the slip, where that is of another sheet or not of the
-    // latest mark.
+    /// Ends the latest mark and leaves the open pairs alone. Refused with 5, and with the slip, where that is of another sheet or not
+    /// of the latest mark; the marked sheet is then as it was.
     pub fn keep(&mut self, slip: Slip) -> Result<(), Returned>
         ensures state { LeadsTo (λ r. r.refusal) (after_keep (sheet_number self.old) (state H.places H.shown self.old) slip.number slip.level) result (state H.places H.shown self.new) }
         ensures slip { IfErr result (λ r. r.slip ≡ slip) }
         ensures refused { OnErr result (self.new ≡ self.old) }
-        ensures below { self.new.below ≡ self.old.below }
+        ensures below { sheet_below self.new ≡ sheet_below self.old }
         ensures sheet { SameSheet H.kept self.old self.new }
     {
         match self.keep_numbered(slip.number, slip.level) {
@@ -87,15 +88,15 @@ impl<'a, H: Sheet> Marked<'a, H> {
     pub(crate) fn keep_numbered(&mut self, number: u16, level: usize) -> Result<(), Refusal>
         ensures state { LeadsTo (λ e. e) (after_keep (sheet_number self.old) (state H.places H.shown self.old) number level) result (state H.places H.shown self.new) }
         ensures refused { OnErr result (self.new ≡ self.old) }
-        ensures below { self.new.below ≡ self.old.below }
+        ensures below { sheet_below self.new ≡ sheet_below self.old }
         ensures sheet { SameSheet H.kept self.old self.new }
     {
         let _ = self.marks.end(number, level)?;
         Ok(())
     }
 
-    // Ends the latest mark and restores its open pairs. Refused, with the slip, where that is of another sheet or not of the latest
-    // mark.
+    /// Ends the latest mark and restores its open pairs. Refused with 5, and with the slip, where that is of another sheet or not of
+    /// the latest mark; the marked sheet is then as it was.
     pub fn back(&mut self, slip: Slip) -> Result<(), Returned>
         ensures state { LeadsTo (λ r. r.refusal) (after_back (sheet_number self.old) (state H.places H.shown self.old) slip.number slip.level) result (state H.places H.shown self.new) }
         ensures slip { IfErr result (λ r. r.slip ≡ slip) }
@@ -151,14 +152,14 @@ fn restore<H: Sheet>(sheet: &mut H, row: &mut [u32; 24])
 
 // A marked sheet is a sheet again: the calls go to the sheet below, and touch no mark.
 impl<'a, H: Sheet> Sheet for Marked<'a, H> {
-    ghost places = { λ m. H.places m.below.now };
+    ghost places = { λ m. H.places (sheet_below m) };
 
-    ghost shown = { λ m. H.shown m.below.now };
+    ghost shown = { λ m. H.shown (sheet_below m) };
 
     // the marks stand, and the sheet below is of the same lender, and is kept
-    ghost kept = { λ s t. (t.marks ≡ s.marks) × ((t.below.ghost_name ≡ s.below.ghost_name) × H.kept s.below.now t.below.now) };
+    ghost kept = { λ s t. (standing_marks t ≡ standing_marks s) × ((lender t ≡ lender s) × H.kept (sheet_below s) (sheet_below t)) };
 
-    ghost laws = { lent_laws (λ m. m) (λ m. m.marks) (lent_laws (λ m. m.below.now) (λ m. m.below.ghost_name) H.laws) };
+    ghost laws = { lent_laws (λ m. m) standing_marks (lent_laws sheet_below lender H.laws) };
 
     fn length(&self) -> usize {
         self.below.length()
