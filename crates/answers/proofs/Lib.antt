@@ -1,8 +1,7 @@
 mod Wording
 mod Stating
 mod Lining
-mod Telling
-mod Playing
-mod Reporting
 mod Counting
+mod Playing
 mod Uniqueness
+mod Reporting

@@ -1,26 +1,28 @@
 -- What both texts tell, and the events on the sheet that the order draws; or the fault of one of them. Assumes nothing.
-use Rattle.std.proofs.Common.{◌≡◌, ℕ, List, length, take, ap, ◌∙◌, Err, subst}
+use Rattle.std.proofs.Common.{◌≡◌, ℕ, List, length, take, Some, Ok, Err, refl, subst}
 use Rattle.refusal.specs.declared.Fault.{Fault}
+use Rattle.book.specs.declared.books.Book.{Book}
+use Rattle.book.specs.Texts as books
 use Rattle.sheet.specs.Masks.{mask_places, mask_shown}
 use Rattle.order.specs.declared.Order.{Order}
 use Rattle.order.specs.Texts.{drawn_pairs, Drawn}
-use Rattle.report.specs.declared.errors.ReportError.{ReportError}
-use Rattle.report.specs.declared.errors.ReportError.TheVariants.{Refused, OutOfMemory}
-use Rattle.printing.specs.Bounds.{bound_of}
-use Rattle.printing.specs.Refusals.{BookTold}
-use Rattle.printing.specs.Steps.{FaultSaid}
-use Rattle.printing.proofs.Telling.{drawn_told, drawn_count}
-use Rattle.answers.specs.Offices.{notation_of, EventsPrinted, EventsTold, OfficeRefused, OfficeReport}
+use Rattle.report.specs.ReportSaid.{ReportSaid}
+use Rattle.report.specs.Prices.{bound_of}
+use Rattle.report.specs.Reports.{FaultShown}
+use Rattle.report.proofs.Reporting.{refused, drawn_count, drawn_shown}
+use Rattle.answers.specs.Texts.{HasLines}
+use Rattle.answers.specs.Offices.{notation_of, EventsPrinted, Heads, OfficeRefused, OfficeReport}
 
-module _ (book order events : List ℕ) where
-  -- a fault is said
-  pub fault_said : (Z : Type 0) (f : Fault) (e : ReportError) → OfficeRefused book order events f → FaultSaid book order f e → OfficeReport book order events {Z = Z} (Err e)
-  fault_said Z f (Refused s v) refused said = (f, refused, said.0, said.1)
-  fault_said Z f OutOfMemory refused said = tt
+module _ (book order events : List ℕ) (old : List (List ℕ)) where
+  -- a fault is shown, and the list is as it was
+  pub fault_told : (r : ReportSaid) (f : Fault) → OfficeRefused book order events (length old) f → r.refused ≡ Some f.source → FaultShown book order f r.text → OfficeReport book order events old (Err r) old
+  fault_told r f x some shown = (refused book order (λ _. ⊥) (OfficeRefused book order events (length old)) r f x some shown, refl)
 
   -- the sheet of the memory's first numbers is that of the order
-  pub events_told : (b : BookTold book) (before after masks : List ℕ) (o : Order) (bytes : List ℕ) → Drawn order before o after → length after ≡ length before → masks ≡ take o.places after → EventsPrinted (bound_of o.limit).ops (notation_of o.limit) (bound_of o.limit).text b.rules b.parts (mask_places masks) (mask_shown masks) events bytes → EventsTold book order events bytes
-  events_told b before after masks o bytes d long e printed =
-      let count = drawn_count d long e in
-      let pairs : mask_shown masks ≡ drawn_pairs d.places = ap mask_shown e ∙ d.pairs in
-      (b, drawn_told d, subst (λ f. EventsPrinted (bound_of o.limit).ops (notation_of o.limit) (bound_of o.limit).text b.rules b.parts (length d.places) f events bytes) pairs (subst (λ n. EventsPrinted (bound_of o.limit).ops (notation_of o.limit) (bound_of o.limit).text b.rules b.parts n (mask_shown masks) events bytes) count printed))
+  pub events_told : (lines : ℕ) (new : List (List ℕ)) (b : Book) → HasLines events lines → books.Tells book b → {before after : List ℕ} {o : Order} (masks : List ℕ) (d : Drawn order before o after) → length after ≡ length before → masks ≡ take o.places after → Heads (EventsPrinted (bound_of o.limit).ops (notation_of o.limit) (bound_of o.limit).text b (mask_places masks) (mask_shown masks) events) lines old new → OfficeReport book order events old (Ok lines) new
+  events_told lines new b count of_book {o = o} masks d long front heads =
+      let places = drawn_count d long front in
+      let shown = drawn_shown d front in
+      let bound = bound_of o.limit in
+      let here : Heads (EventsPrinted bound.ops (notation_of o.limit) bound.text b (length d.places) (drawn_pairs d.places) events) lines old new = subst (λ f. Heads (EventsPrinted bound.ops (notation_of o.limit) bound.text b (length d.places) f events) lines old new) shown (subst (λ n. Heads (EventsPrinted bound.ops (notation_of o.limit) bound.text b n (mask_shown masks) events) lines old new) places heads) in
+      (count, (b, o.limit, d.places, record { of_book = of_book; of_order = d.tells }, here))

@@ -10,12 +10,16 @@ use Rattle.events.specs.declared.Accepted.TheVariants.{Done, Marked, Pruned, Quo
 
 -- `struck place stroke`, `kept level` and `back level`; a mark, a prune and a quote answer more than that they are done
 abbrev pub done_text : {S : Type 0} → Event S → List ℕ
-done_text (Strike place stroke) = (codes "struck " ++ (decimal place ++ codes " ")) ++ (stroke ∷ codes "\n")
+done_text (Strike place stroke) = codes "struck " ++ (decimal place ++ (codes " " ++ (stroke ∷ codes "\n")))
 done_text Mark = []
 done_text (Keep number level) = codes "kept " ++ (decimal level ++ codes "\n")
 done_text (Back number level) = codes "back " ++ (decimal level ++ codes "\n")
 done_text (Prune limit) = []
 done_text (Quote limit) = []
+
+-- `marked` and the level of the mark that was set
+abbrev pub marked_text : ℕ → List ℕ
+marked_text level = codes "marked " ++ (decimal level ++ codes "\n")
 
 -- what a refused event answers: `refused`, the number, the layer, which is `sheet` for what an event is refused for, and 0
 abbrev pub refused_event_text : Refusal → List ℕ
@@ -29,12 +33,12 @@ module _ {S : Type 0} (price_text : S → List ℕ) where
 
   -- `cost` and what the run costs, and `run` and its strokes
   abbrev pub quoted_text : S → List ℕ → List ℕ
-  quoted_text cost run = (codes "cost " ++ (price_text cost ++ codes "\nrun ")) ++ (run ++ codes "\n")
+  quoted_text cost run = codes "cost " ++ (price_text cost ++ (codes "\nrun " ++ (run ++ codes "\n")))
 
   -- what an accepted event answers, on a sheet of so many places
   abbrev pub accepted_text : ℕ → Event S → Accepted S → List ℕ
   accepted_text places e Done = done_text e
-  accepted_text places e (Marked level) = codes "marked " ++ (decimal level ++ codes "\n")
+  accepted_text places e (Marked level) = marked_text level
   accepted_text places e (Pruned p) = pruned_text p
   accepted_text places e (Quoted cost run) = quoted_text cost (take places run)
 

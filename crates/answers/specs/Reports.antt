@@ -19,9 +19,10 @@ paragraphs price_text places (e ∷ events) (a ∷ answers) = answer_text price_
 abbrev pub refused_line_text : Refusal → ℕ → List ℕ → List ℕ
 refused_line_text r number bytes = (fault_line (in_text source.Order r number) ++ 10 ∷ []) ++ (bytes ++ 10 ∷ [])
 
--- what is printed of lines, of which the first has that number: the paragraphs of their events, and the lines that are refused
-abbrev pub printed_text : {S : Type 0} → ℕ → List (EventTextLine S) → List (List ℕ) → List ℕ
-printed_text number [] told = []
-printed_text number (event said ∷ lines) [] = []
-printed_text number (event said ∷ lines) (paragraph ∷ told) = paragraph ++ printed_text (number + 1) lines told
-printed_text number (refused r bytes ∷ lines) told = refused_line_text r number bytes ++ printed_text (number + 1) lines told
+-- what is printed of lines, of which the first has that number, one text a line: the paragraphs of their events, and the lines that
+-- are refused
+abbrev pub printed_lines : {S : Type 0} → ℕ → List (EventTextLine S) → List (List ℕ) → List (List ℕ)
+printed_lines number [] told = []
+printed_lines number (event said ∷ lines) [] = []
+printed_lines number (event said ∷ lines) (paragraph ∷ told) = paragraph ∷ printed_lines (number + 1) lines told
+printed_lines number (refused r bytes ∷ lines) told = refused_line_text r number bytes ∷ printed_lines (number + 1) lines told

@@ -1,5 +1,5 @@
 -- The text of events: its lines, each with what it states or why it is refused. Assumes nothing.
-use Rattle.std.specs.Prelude.{◌≡◌, ◌<◌, ℕ, List, [], ◌∷◌, ◌⊎◌, length, Result, Ok, Err}
+use Rattle.std.specs.Prelude.{◌≡◌, ◌<◌, ℕ, zero, suc, List, [], ◌∷◌, ◌⊎◌, length, Result, Ok, Err}
 use Rattle.refusal.specs.declared.Refusal.{Refusal}
 use Rattle.refusal.specs.declared.Refusal.TheVariants.{UnknownLine}
 use Rattle.text.specs.Fields.{Lacks}
@@ -13,6 +13,11 @@ pub data EventTextLine (S : Type 0) : Type 0 where
   event : EventLine S → EventTextLine S
   refused : Refusal → List ℕ → EventTextLine S
 
+-- the line of these bytes, where it is read so
+abbrev pub line_as : {S : Type 0} → Result (EventLine S) Refusal → List ℕ → EventTextLine S
+line_as (Ok said) bytes = event said
+line_as (Err r) bytes = refused r bytes
+
 -- how it is read
 abbrev pub reading_of : {S : Type 0} → EventTextLine S → Result (EventLine S) Refusal
 reading_of (event said) = Ok said
@@ -21,6 +26,11 @@ reading_of (refused r bytes) = Err r
 -- the first line of the text, which byte 10 or the end of the text ends, and what follows it
 abbrev pub FirstLineOf : (text line after : List ℕ) → Type 0
 FirstLineOf text line after = Starts text line after ⊎ (Lacks 10 text × (line ≡ text) × (after ≡ []))
+
+-- the text has so many lines
+abbrev pub HasLines : List ℕ → ℕ → Type 0
+HasLines text zero = text ≡ []
+HasLines text (suc n) = (0 < length text) × ((line : List ℕ) × (after : List ℕ) × FirstLineOf text line after × HasLines after n)
 
 module _ {S : Type 0} (notation : Notation S) where
   -- the text is not empty, its first line is such, and after follows it; a last line that byte 10 does not end is refused

@@ -2,7 +2,7 @@
 ghost use Rattle.std.specs.Prelude.{MatchOption};
 ghost use Rattle.answers.specs.Notations.{Notation, WritesLimit};
 
-use printing::Printed;
+use report::Printed;
 use scale::{Grade, Time, TimeGrade};
 use text::numbers;
 

@@ -1,116 +1,115 @@
 // Events at the sheet of an order.
-ghost use Rattle.std.specs.Prelude.{◌≡◌, IfOk, length};
-ghost use Rattle.book.specs.BookSaid.{rules_of, parts_of};
-ghost use Rattle.events.specs.Steps.{book_setting};
-ghost use Rattle.printing.specs.Bounds.{bound_of};
-ghost use Rattle.marks.specs.Replays.{Replayed, each_lent};
-ghost use Rattle.answers.specs.Slips.{office_sheet_number};
-ghost use Rattle.answers.specs.Offices.{office_lent, notation_of, EventsPrinted, OfficeReport, OnePrint};
+ghost use Rattle.std.specs.Prelude.{◌≡◌, ◌≤◌, ℕ, List, Result, length};
+ghost use Rattle.report.specs.ReportSaid.{ReportSaid};
+ghost use Rattle.report.specs.Prices.{bound_of};
+ghost use Rattle.answers.specs.Texts.{HasLines};
+ghost use Rattle.answers.specs.Offices.{notation_of, EventsPrinted, Heads, OfficeReport};
 
-use crate::figures::Figures;
-use crate::reports::printed_text;
-use crate::slips::{SHEET_NUMBER, events_of};
-use crate::texts::event_lines;
+use crate::plays::tell_lines;
+use crate::texts::line_count;
+use crate::told::Told;
 use book::Book;
-use events::{Answer, Event};
-use marks::replay;
 use order::Limit;
-use planner::board_entries;
-use printing::fault_error;
-use refusal::Refusal;
-use report::ReportError;
+use refusal::{Fault, Refusal};
+use report::Report;
 use scale::{Grade, Time, TimeGrade};
 use sheet::{MaskSheet, Sheet};
-use std::alloc::{AllocError, Global};
 
-// Plays the events on the sheet, on boards from the allocator, and answers each.
-fn event_answers<S: Figures, H: Sheet>(
-    heap: Global,
-    book: &Book,
-    sheet: &mut H,
-    events: &[Event<S>],
-) -> Result<Vec<Answer<S>>, AllocError>
-    ensures count { IfOk result (λ v. length v.items ≡ length events.now) }
-    ensures life { IfOk result (λ v. Replayed S.ops (book_setting S.ops book.now (H.places sheet.old) office_sheet_number) (H.shown sheet.old) (each_lent (office_lent (H.places sheet.old) (parts_of book.now)) events.now) v.items (H.shown sheet.new)) }
-{
-    let room = board_entries(sheet, book);
-    let mut inside = vec![in heap; S::barred(); room]?;
-    let mut outside = vec![in heap; S::barred(); room]?;
-    let mut choices = vec![in heap; 0u32; room]?;
-    let mut answers = vec![in heap; Err(Refusal::NoRun); events.len()]?;
-    // There is room for each answer, so it is not refused.
-    replay(
-        sheet,
-        SHEET_NUMBER,
-        book,
-        events,
-        &mut inside,
-        &mut outside,
-        &mut choices,
-        &mut answers,
-    )
-    .unwrap();
-    Ok(answers)
-}
+// The entries of a board for a sheet of 16 places and a book of 32 parts, the most that there are.
+const BOARD: usize = 4352;
 
-// Plays the events of the text on the sheet and tells their answers, with limits of any scale.
-fn events_on<S: Figures, H: Sheet>(
-    heap: Global,
-    book: &Book,
-    sheet: &mut H,
-    text: &[u8],
-) -> Result<Vec<u8>, AllocError>
-    ensures { IfOk result (λ v. EventsPrinted S.ops S.notation S.price_text (rules_of book.now) (parts_of book.now) (H.places sheet.old) (H.shown sheet.old) text.now v.items) }
-{
-    let places = sheet.length();
-    let readings = event_lines::<S>(heap, text)?;
-    let events = events_of(heap, &readings)?;
-    let answers = event_answers(heap, book, sheet, &events)?;
-    printed_text(heap, places, text, &readings, &events, &answers)
-}
-
-// The same at the scale that the limit of an order names.
-fn events_by<H: Sheet>(
-    heap: Global,
+// Plays the events of the text on the sheet and tells its lines, at the scale that the limit of an order names.
+fn tell_by<'a, H: Sheet>(
     book: &Book,
     sheet: &mut H,
     limit: Limit,
-    text: &[u8],
-) -> Result<Vec<u8>, AllocError>
-    ensures { IfOk result (λ v. EventsPrinted (bound_of limit).ops (notation_of limit) (bound_of limit).text (rules_of book.now) (parts_of book.now) (H.places sheet.old) (H.shown sheet.old) text.now v.items) }
+    text: &'a [u8],
+    lines: usize,
+    told: &mut [Told<'a>],
+)
+    requires lines { HasLines text.now lines }
+    requires room { lines ≤ length told.old }
+    ensures { Heads (EventsPrinted (bound_of limit).ops (notation_of limit) (bound_of limit).text book.now (H.places sheet.old) (H.shown sheet.old) text.now) lines told.old told.new }
 {
+    let mut choices = [0u32; BOARD];
     match limit {
-        Limit::Time(_) => events_on::<Time, H>(heap, book, sheet, text),
-        Limit::Grade(_) => events_on::<Grade, H>(heap, book, sheet, text),
-        Limit::Both { .. } => events_on::<TimeGrade, H>(heap, book, sheet, text),
+        Limit::Time(_) => {
+            let mut inside = [Time::new(0); BOARD];
+            let mut outside = [Time::new(0); BOARD];
+            tell_lines(
+                book,
+                sheet,
+                text,
+                lines,
+                &mut inside,
+                &mut outside,
+                &mut choices,
+                told,
+            );
+        }
+        Limit::Grade(_) => {
+            let mut inside = [Grade::new(0); BOARD];
+            let mut outside = [Grade::new(0); BOARD];
+            tell_lines(
+                book,
+                sheet,
+                text,
+                lines,
+                &mut inside,
+                &mut outside,
+                &mut choices,
+                told,
+            );
+        }
+        Limit::Both { .. } => {
+            let mut inside = [TimeGrade::new(0, 0); BOARD];
+            let mut outside = [TimeGrade::new(0, 0); BOARD];
+            tell_lines(
+                book,
+                sheet,
+                text,
+                lines,
+                &mut inside,
+                &mut outside,
+                &mut choices,
+                told,
+            );
+        }
     }
 }
 
-// What the events answer, played one after the other on the sheet that the order draws; or the fault of the book or of the order, and
-// then no event is played.
-pub fn office_report(
-    heap: Global,
-    book: &[u8],
-    order: &[u8],
-    events: &[u8],
-) -> Result<Vec<u8>, ReportError>
-    ensures { OfficeReport book.now order.now events.now result }
+/// Plays the events, one a line, one after the other on the sheet that the order draws, and answers how many lines they are: the
+/// first so many entries of `told` are then what is printed, an entry a line, and the others are as they were. Of a line that states
+/// an event that is what the event answers; a line that states none is refused with 12 or 13, with its number, from 1, and played
+/// events are not changed by it. Limits and costs are of the scale of the order's limit.
+///
+/// The error is what is printed instead, and `told` is then as it was, and no event is played: the fault of the book's text, else that
+/// of the order's, or refusal 9, of the sheet, where `told` has fewer entries than the events have lines (`line_count`).
+pub fn office_report<'a>(
+    book: &'a [u8],
+    order: &'a [u8],
+    events: &'a [u8],
+    told: &mut [Told<'a>],
+) -> Result<usize, Report<'a>>
+    ensures report { OfficeReport book.now order.now events.now told.old result told.new }
+    ensures only { (other : Result ℕ ReportSaid) (texts : List (List ℕ)) → OfficeReport book.now order.now events.now told.old other texts → (other ≡ result) × (texts ≡ told.new) }
 {
     let read = match book::read(book) {
         Ok(read) => read,
-        Err(fault) => return Err(fault_error(heap, book, order, fault)),
+        Err(fault) => return Err(Report::of_fault(book, order, fault)),
     };
     // The memory of the sheet, lent to the reader: as many numbers as an order may have places.
     let mut memory = [0u32; 16];
     let drawn = match order::read(order, &mut memory) {
         Ok(drawn) => drawn,
-        Err(fault) => return Err(fault_error(heap, book, order, fault)),
+        Err(fault) => return Err(Report::of_fault(book, order, fault)),
     };
+    let lines = line_count(events);
+    if told.len() < lines {
+        let short = Fault::of_sheet(Refusal::LentTooShort);
+        return Err(Report::of_fault(book, order, short));
+    }
     let mut sheet = MaskSheet::new(&mut memory[..drawn.places]);
-    Ok(events_by(heap, &read, &mut sheet, drawn.limit, events)?)
+    tell_by(&read, &mut sheet, drawn.limit, events, lines, told);
+    Ok(lines)
 }
-
-// The rules of a book, the sheet of an order and the text of events settle what is printed of the events.
-pub fn one_print<S: Figures>()
-    ensures { OnePrint S.ops S.notation S.price_text }
-{}

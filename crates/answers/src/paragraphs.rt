@@ -1,49 +1,66 @@
 // The answer of an event, as it is printed.
-ghost use Rattle.std.specs.Prelude.{◌≡◌, IfOk, take};
-ghost use Rattle.answers.specs.Paragraphs.{done_text, pruned_text, quoted_text, accepted_text, refused_event_text, answer_text};
+ghost use Rattle.std.specs.Prelude.{◌≡◌, ◌≤◌, length, take};
+ghost use Rattle.text.specs.Pages.{Appended};
+ghost use Rattle.answers.specs.Paragraphs.{done_text, pruned_text, quoted_text, accepted_text, marked_text, refused_event_text, answer_text};
 
 use crate::figures::Figures;
 use events::{Accepted, Answer, Event};
 use planner::Pruned;
 use refusal::{Fault, Refusal};
 use scale::Scale;
-use std::alloc::{AllocError, Global};
+use text::Page;
 
 // A strike by its place and stroke, a keep and a back by the level of their slip. The other events are answered by more than that
 // they are done.
-fn done_text<S: Scale>(heap: Global, event: &Event<S>) -> Result<Vec<u8>, AllocError>
-    ensures { IfOk result (λ v. v.items ≡ done_text event.now) }
+fn put_done<S: Scale>(page: &mut Page, event: &Event<S>)
+    ensures text { Appended page.old (done_text event.now) page.new }
+    ensures short { length (done_text event.now) ≤ 96 }
 {
     match *event {
         Event::Strike { place, stroke } => {
-            let mut out = format!(in heap; "struck {place} ")?.into_bytes();
-            out.push(stroke)?;
-            out.push(b'\n')?;
-            Ok(out)
+            page.put(b"struck ");
+            page.number(place as u64);
+            page.push(b' ');
+            page.push(stroke);
+            page.push(b'\n');
         }
-        Event::Keep { level, .. } => Ok(format!(in heap; "kept {level}\n")?.into_bytes()),
-        Event::Back { level, .. } => Ok(format!(in heap; "back {level}\n")?.into_bytes()),
-        Event::Mark | Event::Prune { .. } | Event::Quote { .. } => Ok(Vec::new(heap)),
+        Event::Keep { level, .. } => {
+            page.put(b"kept ");
+            page.number(level as u64);
+            page.push(b'\n');
+        }
+        Event::Back { level, .. } => {
+            page.put(b"back ");
+            page.number(level as u64);
+            page.push(b'\n');
+        }
+        Event::Mark | Event::Prune { .. } | Event::Quote { .. } => {}
     }
 }
 
 // What the cheapest run costs, and how many strokes were closed.
-fn pruned_text<S: Figures>(heap: Global, pruned: &Pruned<S>) -> Result<Vec<u8>, AllocError>
-    ensures { IfOk result (λ v. v.items ≡ pruned_text S.price_text pruned.now) }
+fn put_pruned<S: Figures>(page: &mut Page, pruned: &Pruned<S>)
+    ensures text { Appended page.old (pruned_text S.price_text pruned.now) page.new }
+    ensures short { length (pruned_text S.price_text pruned.now) ≤ 96 }
 {
-    let least = pruned.least;
-    let closed = pruned.closed;
-    Ok(format!(in heap; "cost {least}\nstruck {closed}\n")?.into_bytes())
+    page.put(b"cost ");
+    pruned.least.put(page);
+    page.put(b"\nstruck ");
+    page.number(pruned.closed as u64);
+    page.push(b'\n');
 }
 
 // What the run costs, and the run.
-fn quoted_text<S: Figures>(heap: Global, cost: S, run: &[u8]) -> Result<Vec<u8>, AllocError>
-    ensures { IfOk result (λ v. v.items ≡ quoted_text S.price_text cost run.now) }
+fn put_quoted<S: Figures>(page: &mut Page, cost: S, run: &[u8])
+    requires { length run.now ≤ 24 }
+    ensures text { Appended page.old (quoted_text S.price_text cost run.now) page.new }
+    ensures short { length (quoted_text S.price_text cost run.now) ≤ 96 }
 {
-    let mut out = format!(in heap; "cost {cost}\nrun ")?.into_bytes();
-    out.extend_from_slice(run)?;
-    out.push(b'\n')?;
-    Ok(out)
+    page.put(b"cost ");
+    cost.put(page);
+    page.put(b"\nrun ");
+    page.put(run);
+    page.push(b'\n');
 }
 
 // The first bytes of the run, so many if it has them.
@@ -57,42 +74,50 @@ fn front(run: &[u8], places: usize) -> &[u8]
     }
 }
 
-// What is printed of an accepted event on a sheet of so many places.
-fn accepted_text<S: Figures>(
-    heap: Global,
+// Puts what is printed of an accepted event on a sheet of so many places.
+fn put_accepted<S: Figures>(
+    page: &mut Page,
     places: usize,
     event: &Event<S>,
     accepted: &Accepted<S>,
-) -> Result<Vec<u8>, AllocError>
-    ensures { IfOk result (λ v. v.items ≡ accepted_text S.price_text places event.now accepted.now) }
+)
+    ensures text { Appended page.old (accepted_text S.price_text places event.now accepted.now) page.new }
+    ensures short { length (accepted_text S.price_text places event.now accepted.now) ≤ 96 }
 {
     match accepted {
-        Accepted::Done => done_text(heap, event),
-        Accepted::Marked { level } => Ok(format!(in heap; "marked {level}\n")?.into_bytes()),
-        Accepted::Pruned(pruned) => pruned_text(heap, pruned),
-        Accepted::Quoted { cost, run } => quoted_text(heap, *cost, front(run, places)),
+        Accepted::Done => put_done(page, event),
+        Accepted::Marked { level } => put_marked(page, *level),
+        Accepted::Pruned(pruned) => put_pruned(page, pruned),
+        Accepted::Quoted { cost, run } => put_quoted(page, *cost, front(run, places)),
     }
 }
 
-// What is printed of a refused event.
-fn refused_event_text(heap: Global, refusal: Refusal) -> Result<Vec<u8>, AllocError>
-    ensures { IfOk result (λ v. v.items ≡ refused_event_text refusal) }
+// The level of the mark that was set.
+fn put_marked(page: &mut Page, level: usize)
+    ensures text { Appended page.old (marked_text level) page.new }
+    ensures short { length (marked_text level) ≤ 96 }
 {
-    let fault = Fault::of_sheet(refusal);
-    Ok(format!(in heap; "{fault}\n")?.into_bytes())
+    page.put(b"marked ");
+    page.number(level as u64);
+    page.push(b'\n');
 }
 
-// What is printed of an event and its answer, on a sheet of so many places.
-pub fn answer_text<S: Figures>(
-    heap: Global,
-    places: usize,
-    event: &Event<S>,
-    answer: &Answer<S>,
-) -> Result<Vec<u8>, AllocError>
-    ensures { IfOk result (λ v. v.items ≡ answer_text S.price_text places event.now answer.now) }
+// Puts what is printed of a refused event.
+fn put_refused_event(page: &mut Page, refusal: Refusal)
+    ensures text { Appended page.old (refused_event_text refusal) page.new }
+    ensures short { length (refused_event_text refusal) ≤ 96 }
+{
+    page.fault(Fault::of_sheet(refusal));
+    page.push(b'\n');
+}
+
+/// Puts on the page what is printed of an event and its answer, on a sheet of so many places: at most 96 bytes.
+pub fn put_answer<S: Figures>(page: &mut Page, places: usize, event: &Event<S>, answer: &Answer<S>)
+    ensures text { Appended page.old (answer_text S.price_text places event.now answer.now) page.new }
+    ensures short { length (answer_text S.price_text places event.now answer.now) ≤ 96 }
 {
     match answer {
-        Ok(accepted) => accepted_text(heap, places, event, accepted),
-        Err(refusal) => refused_event_text(heap, *refusal),
+        Ok(accepted) => put_accepted(page, places, event, accepted),
+        Err(refusal) => put_refused_event(page, *refusal),
     }
 }

@@ -1,18 +1,17 @@
 // The events of a text's lines, with the slips that they name.
-ghost use Rattle.std.specs.Prelude.{◌≡◌, ◌≤◌, IfOk};
-ghost use Rattle.answers.specs.Counts.{MarksCounted};
-ghost use Rattle.answers.specs.Slips.{event_of, marks_after, events_of};
+ghost use Rattle.std.specs.Prelude.{◌≡◌, ◌≤◌, [], ◌∷◌};
+ghost use Rattle.answers.specs.Counts.{MarksCounted, marks_left};
+ghost use Rattle.answers.specs.Slips.{event_of, marks_after};
 
 use crate::lines::{EventLine, Reading};
 use events::Event;
 use scale::Scale;
-use std::alloc::{AllocError, Global};
 
 // The number of the sheet that events are played on: there is one.
 pub(crate) const SHEET_NUMBER: u16 = 1;
 
 // The event that a line states where so many marks stand: a keep and a back name the slip of the latest.
-fn event_of<S: Scale>(said: EventLine<S>, marks: usize) -> Event<S>
+pub(crate) fn event_of<S: Scale>(said: EventLine<S>, marks: usize) -> Event<S>
     ensures { result ≡ event_of marks said }
 {
     match said {
@@ -44,25 +43,19 @@ fn marks_after<S: Scale>(said: EventLine<S>, marks: usize) -> usize
     }
 }
 
-// The events that lines state, in their order. A line that is refused is no event.
-pub fn events_of<S: Scale>(
-    heap: Global,
-    readings: &[Reading<S>],
-) -> Result<Vec<Event<S>>, AllocError>
-    ensures { IfOk result (λ v. v.items ≡ events_of 0 readings.now) }
+// How many marks stand after a line that is read so: one that is refused is no event.
+pub(crate) fn marks_past<S: Scale>(reading: Reading<S>, marks: usize) -> usize
+    requires { marks ≤ 8 }
+    ensures past { result ≡ marks_left marks (reading ∷ []) }
+    ensures few { result ≤ 8 }
 {
-    let mut events = Vec::new(heap);
-    let mut marks = 0;
-    for reading in readings {
-        if let Ok(said) = reading {
-            events.push(event_of(*said, marks))?;
-            marks = marks_after(*said, marks);
-        }
+    match reading {
+        Ok(said) => marks_after(said, marks),
+        Err(_) => marks,
     }
-    Ok(events)
 }
 
-// As many marks stand after any lines as are counted.
+/// As many marks stand after any lines as are counted. It does nothing when it is called.
 pub fn marks_counted<S: Scale>()
     ensures { MarksCounted S.ops }
 {}

@@ -1,15 +1,14 @@
 // The text of events: its lines, in their order.
-ghost use Rattle.std.specs.Prelude.{◌≡◌, ◌<◌, List, length, map, IfOk};
-ghost use Rattle.answers.specs.Texts.{EventTextLine, reading_of, FirstLineOf, FirstRead, Lined, OneLining};
+ghost use Rattle.std.specs.Prelude.{◌<◌, length};
+ghost use Rattle.answers.specs.Texts.{FirstLineOf, HasLines, FirstRead, OneLining, line_as};
 
 use crate::figures::Figures;
 use crate::lines::{Reading, event_line};
 use refusal::Refusal;
-use std::alloc::{AllocError, Global};
 use text::first_line;
 
 // The first line of a text, up to byte 10 or to the end, and what follows it.
-pub(crate) fn line_and_rest(text: &[u8]) -> (&[u8], &[u8])
+fn line_and_rest(text: &[u8]) -> (&[u8], &[u8])
     ensures { FirstLineOf text.now result.0.now result.1.now }
 {
     match first_line(text) {
@@ -18,34 +17,33 @@ pub(crate) fn line_and_rest(text: &[u8]) -> (&[u8], &[u8])
     }
 }
 
-// How the first line of a text is read, and what follows it. A line that byte 10 does not end is refused whatever it says.
+/// How many lines a text has: byte 10 ends a line, and a last line that it does not end counts too.
+pub fn line_count(text: &[u8]) -> usize
+    ensures { HasLines text.now result }
+{
+    let mut rest = text;
+    let mut count = 0;
+    while !rest.is_empty() {
+        let (_, after) = line_and_rest(rest);
+        rest = after;
+        count += 1;
+    }
+    count
+}
+
+// The first line of a text, how it is read, and what follows it. A line that byte 10 does not end is refused whatever it says.
 #[tactic(auto, using(crate::proofs::Lining::last_read))]
-fn next_line<S: Figures>(rest: &[u8]) -> (Reading<S>, &[u8])
+pub(crate) fn next_line<S: Figures>(rest: &[u8]) -> (&[u8], Reading<S>, &[u8])
     requires { 0 < length rest.now }
-    ensures { (line : EventTextLine S) × FirstRead S.notation rest.now line result.1.now × (result.0 ≡ reading_of line) }
+    ensures { FirstRead S.notation rest.now (line_as result.1 result.0.now) result.2.now }
 {
     match first_line(rest) {
-        Some((line, after)) => (event_line(line), after),
-        None => (Err(Refusal::UnknownLine), b""),
+        Some((line, after)) => (line, event_line(line), after),
+        None => (rest, Err(Refusal::UnknownLine), b""),
     }
 }
 
-// How the lines of a text are read, each by itself.
-#[tactic(auto, using(crate::proofs::Lining::sofar_more))]
-pub fn event_lines<S: Figures>(heap: Global, text: &[u8]) -> Result<Vec<Reading<S>>, AllocError>
-    ensures { IfOk result (λ v. (lines : List (EventTextLine S)) × Lined S.notation text.now lines × (v.items ≡ map reading_of lines)) }
-{
-    let mut readings = Vec::new(heap);
-    let mut rest = text;
-    while !rest.is_empty() {
-        let (reading, after) = next_line(rest);
-        readings.push(reading)?;
-        rest = after;
-    }
-    Ok(readings)
-}
-
-// A text has its lines in one way only.
+/// A text has its lines in one way only. It does nothing when it is called.
 pub fn one_lining<S: Figures>()
     ensures { OneLining S.notation }
 {}
