@@ -1,7 +1,7 @@
 // The entry of the saw's controller, which is a C program: what a run costs by a book's text, in one number.
 #![tactic(auto)]
 
-ghost use Rattle.std.specs.Prelude.{◌≡◌, IsSome, MatchResult, length};
+ghost use Rattle.std.specs.Prelude.{◌≡◌, ℕ, IsSome, MatchResult, length};
 ghost use Rattle.book.specs.BookSaid.{parts_of};
 ghost use Rattle.controller.specs.Packed.{EntryAnswers, answered, entry_refused, packed};
 
@@ -17,7 +17,8 @@ mod tests;
 // the run has no 17th place, and then as for any price. The board has entries for 16 places and 32 parts.
 #[unsafe(no_mangle)]
 pub extern "C" fn waichuro_price(book: &[u8], run: &[u8]) -> u64
-    ensures { EntryAnswers book.now run.now result }
+    ensures answer { EntryAnswers book.now run.now result }
+    ensures only { (other : ℕ) → EntryAnswers book.now run.now other → other ≡ result }
 {
     let mut inside = [Time::new(0); 4352];
     answer(book::read(book), run, &mut inside)
