@@ -166,8 +166,12 @@ impl Draft for OrderDraft {
     }
 }
 
-// The order that a text states, with the open letters of its places in the memory of a sheet, one number a place; or the
-// first refusal in the order of the checks, with its line.
+/// The order that a text states, with the open letters of its places in the memory of a sheet, one number a place: bit 0 is A
+/// and bit 25 is Z; the higher bits and the memory beyond the places stay. Or the first refusal in the order of the checks,
+/// with its line.
+///
+/// Refused with 11 to 13, 15, 18 and 19, and last with 9 where the memory has fewer numbers than there are places
+/// (docs/REFUSALS.md); the memory is then as it was.
 #[tactic(auto, using(crate::proofs::Telling::accepted_drawn, crate::proofs::Smallness::accepted_small))]
 pub fn read(text: &[u8], memory: &mut [u32]) -> Result<Order, Fault>
     ensures outcome { Outcome text.now memory.old result memory.new }

@@ -18,7 +18,7 @@ pub trait Printed: Scale {
         ensures { Appended page.old (price_text self) page.new };
 }
 
-// The tenths of a second, or `barred`.
+/// The tenths of a second, or `barred`.
 impl Printed for Time {
     ghost use Rattle.scale.specs.Times.{time_text};
     ghost use Rattle.report.specs.PricesLemmas.{time_short};
@@ -36,7 +36,7 @@ impl Printed for Time {
     }
 }
 
-// The number of the blade heat, or `barred`.
+/// The number of the blade heat, or `barred`.
 impl Printed for Grade {
     ghost use Rattle.scale.specs.Grades.{grade_text};
     ghost use Rattle.report.specs.PricesLemmas.{grade_short};
@@ -54,7 +54,7 @@ impl Printed for Grade {
     }
 }
 
-// The tenths, a space and the number of the blade heat, or `barred`.
+/// The tenths of a second, a space and the number of the blade heat, or `barred`.
 impl Printed for TimeGrade {
     ghost use Rattle.scale.specs.TimeGrades.{time_grade_text};
     ghost use Rattle.report.specs.PricesLemmas.{time_grade_short};
