@@ -1,9 +1,11 @@
 // An order's text, read line by line.
-ghost use Rattle.std.specs.Prelude.{◌≡◌};
-ghost use Rattle.text.specs.Reading.{RestRead, LineRead, Ending, Ends};
+ghost use Rattle.std.specs.Prelude.{◌≡◌, ℕ, List, Result};
+ghost use Rattle.refusal.specs.declared.Fault.{Fault};
+ghost use Rattle.text.specs.Reading.{RestRead, LineRead};
+ghost use Rattle.order.specs.declared.Order.{Order};
 ghost use Rattle.order.specs.Letters.{Letters};
 ghost use Rattle.order.specs.Statements.{Said, place, Spelled, Stated, order_form};
-ghost use Rattle.order.specs.Texts.{Outcome, Agrees, Told};
+ghost use Rattle.order.specs.Texts.{Outcome, Told};
 ghost use Rattle.order.specs.Steps.{said_by, stated_by, whole_stated, Adds};
 
 use crate::Order;
@@ -175,7 +177,7 @@ impl Draft for OrderDraft {
 #[tactic(auto, using(crate::proofs::Telling::accepted_drawn, crate::proofs::Smallness::accepted_small))]
 pub fn read(text: &[u8], memory: &mut [u32]) -> Result<Order, Fault>
     ensures outcome { Outcome text.now memory.old result memory.new }
-    ensures only { (e : Ending Stated) → Ends order_form text.now e → Agrees e memory.old result memory.new }
+    ensures only { (other : Result Order Fault) (after : List ℕ) → Outcome text.now memory.old other after → (other ≡ result) × (after ≡ memory.new) }
     ensures told { Told text.now memory.old result memory.new }
 {
     let WholeOrder { limit, masks } = text::read(OrderDraft::new(), Source::Order, text)?;
