@@ -28,10 +28,9 @@ impl Printed for Time {
     ghost short = { time_short };
 
     fn put(self, page: &mut Page) {
-        if self.tenths() == u32::MAX {
-            page.put(b"barred");
-        } else {
-            page.number(self.tenths() as u64);
+        match self.tenths() {
+            u32::MAX => page.put(b"barred"),
+            tenths => page.number(tenths as u64),
         }
     }
 }
@@ -46,10 +45,9 @@ impl Printed for Grade {
     ghost short = { grade_short };
 
     fn put(self, page: &mut Page) {
-        if self.level() == u8::MAX {
-            page.put(b"barred");
-        } else {
-            page.number(self.level() as u64);
+        match self.level() {
+            u8::MAX => page.put(b"barred"),
+            level => page.number(level as u64),
         }
     }
 }
