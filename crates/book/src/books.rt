@@ -7,7 +7,8 @@ use crate::rules::Rule;
 use arrayvec::ArrayVec;
 use std::marker::Model;
 
-// How many parts there are, numbered from 0, and the rules, numbered from 1 in the order of their lines.
+/// A book: how many parts there are, 1 to 32, numbered from 0, and the rules, 1 to 128, numbered from 1 in the order of their
+/// lines.
 #[derive(Drop)]
 pub struct Book {
     pub(crate) parts: u8,
@@ -26,6 +27,7 @@ impl Model for Book {
 }
 
 impl Book {
+    /// How many parts there are: 1 to 32.
     pub fn parts(&self) -> u8
         ensures parts { result ≡ parts_of self.now }
         ensures lawful { Lawful (parts_of self.now) (rules_of self.now) }
@@ -33,7 +35,7 @@ impl Book {
         self.parts
     }
 
-    // The rules in the order of their numbers: rule number 1 stands at index 0.
+    /// The rules in the order of their numbers, 1 to 128 of them: rule number 1 stands at index 0.
     pub fn rules(&self) -> &[Rule]
         ensures rules { result.now ≡ rules_of self.now }
         ensures lawful { Lawful (parts_of self.now) (rules_of self.now) }

@@ -38,7 +38,8 @@ fn put_rule(page: &mut Page, rule: Rule)
     page.push(b'\n');
 }
 
-// The book's text: the line of the number of parts, and the lines of the rules in the order of their numbers.
+/// The book's text on a page, which has room for each book: the line of the number of parts, and the lines of the rules in the
+/// order of their numbers, without notes.
 pub fn page_of(book: &Book) -> Page
     ensures text { page_text result ≡ book_text book.now }
     ensures tells { Tells (book_text book.now) book.now }
@@ -53,7 +54,9 @@ pub fn page_of(book: &Book) -> Page
     page
 }
 
-// Writes the book's text at the front of `out`, and answers how long it is.
+/// Writes the book's text at the front of `out`, and answers how many bytes long it is. What stands in `out` behind it stays.
+///
+/// Refused with 9 (docs/REFUSALS.md) where `out` is shorter than the text; `out` is then as it was.
 pub fn write(book: &Book, out: &mut [u8]) -> Result<usize, Refusal>
     ensures text { Wrote (book_text book.now) out.old result out.new }
     ensures tells { Tells (book_text book.now) book.now }
@@ -68,8 +71,9 @@ pub fn write(book: &Book, out: &mut [u8]) -> Result<usize, Refusal>
     Ok(n)
 }
 
-// Writes the book's text at the front of `out`, and reads it again there: the same book. An output that is too short is refused,
-// and stays as it was.
+/// Writes the book's text at the front of `out`, and reads it again there: the same book. What stands in `out` behind it stays.
+///
+/// Refused with 9 (docs/REFUSALS.md) where `out` is shorter than the text; `out` is then as it was.
 pub fn read_back(book: &Book, out: &mut [u8]) -> Result<Book, Refusal>
     ensures { ReadBack book.now out.old result out.new }
 {

@@ -1,7 +1,7 @@
 // The entry of the saw's controller, which is a C program: what a run costs by a book's text, in one number.
 #![tactic(auto)]
 
-ghost use Rattle.std.specs.Prelude.{◌≡◌, IsSome, MatchResult, length};
+ghost use Rattle.std.specs.Prelude.{◌≡◌, ℕ, IsSome, MatchResult, length};
 ghost use Rattle.book.specs.BookSaid.{parts_of};
 ghost use Rattle.controller.specs.Packed.{EntryAnswers, answered, entry_refused, packed};
 
@@ -13,18 +13,22 @@ use scale::Time;
 #[cfg(test)]
 mod tests;
 
-// The time in tenths of a second, or the number of the refusal times 2 to the 32nd. The book's text is checked first, then that
-// the run has no 17th place, and then as for any price. The board has entries for 16 places and 32 parts.
+/// What the run costs by the book of the text: the time in tenths of a second, or the number of the refusal times 2 to the
+/// 32nd. It has a board of its own, with entries for 16 places and 32 parts, and changes nothing.
+///
+/// Refused with 11 to 17 for the book's text, which is checked first; then with 19 for a 17th place; and then with 6, 2 or 10
+/// (docs/REFUSALS.md).
 #[unsafe(no_mangle)]
 pub extern "C" fn waichuro_price(book: &[u8], run: &[u8]) -> u64
-    ensures { EntryAnswers book.now run.now result }
+    ensures answer { EntryAnswers book.now run.now result }
+    ensures only { (other : ℕ) → EntryAnswers book.now run.now other → other ≡ result }
 {
     let mut inside = [Time::new(0); 4352];
     answer(book::read(book), run, &mut inside)
 }
 
-// The same of a book as it was read, on a board that is lent. What the board holds after a time or refusal 10 is free; any other
-// refusal leaves it as it was.
+/// The same of a book as it was read, on a board that is lent, and with 8 where that has too few entries, after 6 and 2. What
+/// the board holds after a time or refusal 10 is free; any other refusal leaves it as it was.
 pub fn answer(read: Result<Book, Fault>, run: &[u8], inside: &mut [Time]) -> u64
     ensures answer { result ≡ answered read run.now (length inside.old) }
     ensures board { MatchResult read (λ b. IsSome (entry_refused (parts_of b) run.now (length inside.old)) → inside.new ≡ inside.old) (λ _. inside.new ≡ inside.old) }

@@ -13,7 +13,7 @@ use Rattle.order.specs.declared.Order.{Order}
 use Rattle.order.specs.Letters.{Letters, mask_of}
 use Rattle.order.specs.Statements.{Said, limit, place, InRange, Stated, order_form}
 use Rattle.sheet.specs.Masks.{mask_shown}
-use Rattle.order.specs.Texts.{Tells, filled, drawn_pairs, in_order, too_short, stated_with, Outcome, Agrees, Drawn, Told}
+use Rattle.order.specs.Texts.{Tells, filled, drawn_pairs, in_order, too_short, stated_with, Outcome, Drawn, Told}
 use Rattle.order.proofs.Plain.{order_plain}
 use Rattle.order.proofs.Pairing.{filled_shown}
 
@@ -121,24 +121,49 @@ accepted_short text before f after x sum h =
     (y.0, subst (λ (d : Stated). length before < length d.places) same y.1.2))
     x.0
 
--- an outcome leaves no other
-pub only_ending : (text before : List ℕ) (r : Result Order Fault) (after : List ℕ) → Outcome text before r after → (e : Ending Stated) → Ends order_form text e → Agrees e before r after
-only_ending text before (Ok o) after x (stated sum) h =
-    let e = one text (stated sum) (stated (stated_with o.limit x.0)) h x.1 in
-    let same : sum ≡ stated_with o.limit x.0 = cc in
-    let masks = sym (ap (λ (d : Stated). d.places) same) in
-    (same ∙ ap (stated_with o.limit) masks, x.2 ∙ ap length masks, x.4 ∙ ap (λ m. filled m before) masks)
-only_ending text before (Ok o) after x (refused r n) h = apart (stated_with o.limit x.0) r n (one text (stated (stated_with o.limit x.0)) (refused r n) x.1 h)
-only_ending text before (Err f) after x (stated sum) h = accepted_short text before f after x sum h
-only_ending text before (Err f) after x (refused r n) h =
+-- a text is not refused in two ways
+pub one_refused : (text : List ℕ) (f g : Fault) → FaultOf order_form source.Order text f → FaultOf order_form source.Order text g → f ≡ g
+one_refused text f g x y =
+    let e = one text (refused x.0 x.1) (refused y.0 y.1) x.3 y.3 in
+    let e₁ : x.0 ≡ y.0 = cc in
+    let e₂ : x.1 ≡ y.1 = cc in
+    x.2 ∙ (λ i. in_order (e₁ i) (e₂ i)) ∙ sym y.2
+
+-- two orders that the text states are one, and leave one memory
+same_order : (text before : List ℕ) (o p : Order) (after left : List ℕ) → Outcome text before (Ok o) after → Outcome text before (Ok p) left → (o ≡ p) × (after ≡ left)
+same_order text before o p after left x y =
+    let e = one text (stated (stated_with o.limit x.0)) (stated (stated_with p.limit y.0)) x.1 y.1 in
+    let same : stated_with o.limit x.0 ≡ stated_with p.limit y.0 = cc in
+    let limits' = ap (λ (d : Stated). d.limit) same in
+    let limits : o.limit ≡ p.limit = cc in
+    let masks : x.0 ≡ y.0 = ap (λ (d : Stated). d.places) same in
+    let count : o.places ≡ p.places = x.2 ∙ ap length masks ∙ sym y.2 in
+    ((λ i. record { limit = limits i; places = count i }), x.4 ∙ ap (λ m. filled m before) masks ∙ sym y.4)
+
+-- a text that states an order is not refused in a memory that has room for it
+never_refused : (text before : List ℕ) (o : Order) (f : Fault) (after left : List ℕ) → Outcome text before (Ok o) after → Outcome text before (Err f) left → ⊥
+never_refused text before o f after left x y =
+    let short = accepted_short text before f left y (stated_with o.limit x.0) x.1 in
+    omega (arith, short.1, x.3)
+
+-- two refusals of the text are one
+same_fault : (text before : List ℕ) (f g : Fault) (after left : List ℕ) → Outcome text before (Err f) after → Outcome text before (Err g) left → f ≡ g
+same_fault text before f g after left x y =
     ⊎_elim
-    (λ (y : FaultOf order_form source.Order text f).
-    let e = one text (refused y.0 y.1) (refused r n) y.3 h in
-    let e₁ : y.0 ≡ r = cc in
-    let e₂ : y.1 ≡ n = cc in
-    y.2 ∙ (λ i. in_order (e₁ i) (e₂ i)))
-    (λ (y : Short text before f). absurd (apart y.1.0 r n (one text (stated y.1.0) (refused r n) y.1.1 h)))
+    (λ (u : FaultOf order_form source.Order text f).
+    ⊎_elim
+    (λ (v : FaultOf order_form source.Order text g). one_refused text f g u v)
+    (λ (v : Short text before g). absurd (apart v.1.0 u.0 u.1 (one text (stated v.1.0) (refused u.0 u.1) v.1.1 u.3)))
+    y.0)
+    (λ (u : Short text before f). u.0 ∙ sym (accepted_short text before g left y u.1.0 u.1.1).0)
     x.0
+
+-- a text and a memory have one outcome
+pub one_outcome : (text before : List ℕ) (r q : Result Order Fault) (after left : List ℕ) → Outcome text before r after → Outcome text before q left → (r ≡ q) × (after ≡ left)
+one_outcome text before (Ok o) (Ok p) after left x y = let same = same_order text before o p after left x y in (ap (λ z. Ok z) same.0, same.1)
+one_outcome text before (Ok o) (Err g) after left x y = absurd (never_refused text before o g after left x y)
+one_outcome text before (Err f) (Ok p) after left x y = absurd (never_refused text before p f left after y x)
+one_outcome text before (Err f) (Err g) after left x y = (ap (λ z. Err z) (same_fault text before f g after left x y), x.1 ∙ sym y.1)
 
 pub told_by : (text before : List ℕ) (r : Result Order Fault) (after : List ℕ) → Outcome text before r after → Told text before r after
 told_by text before (Ok o) after x = accepted_drawn text before o x.0 after x.1 x.2 x.3 x.4
@@ -169,11 +194,3 @@ pub told_refused : (text : List ℕ) (l : Limit) (places : List (List ℕ)) (f :
 told_refused text l places f t x =
     let sum = stated_with l (map mask_of places) in
     apart sum x.0 x.1 (one text (stated sum) (refused x.0 x.1) (tells_accepted text l places t) x.3)
-
--- nor is it refused in two ways
-pub one_refused : (text : List ℕ) (f g : Fault) → FaultOf order_form source.Order text f → FaultOf order_form source.Order text g → f ≡ g
-one_refused text f g x y =
-    let e = one text (refused x.0 x.1) (refused y.0 y.1) x.3 y.3 in
-    let e₁ : x.0 ≡ y.0 = cc in
-    let e₂ : x.1 ≡ y.1 = cc in
-    x.2 ∙ (λ i. in_order (e₁ i) (e₂ i)) ∙ sym y.2

@@ -6,7 +6,7 @@ use Rattle.refusal.specs.declared.Refusal.TheVariants.{LentTooShort}
 use Rattle.refusal.specs.declared.Source.TheVariants as source
 use Rattle.refusal.specs.declared.Fault.{Fault}
 use Rattle.refusal.specs.Faults.{on_sheet, in_text}
-use Rattle.text.specs.Reading.{Listed, Ending, stated, refused, Ends}
+use Rattle.text.specs.Reading.{Listed, stated, Ends}
 use Rattle.text.specs.Readings.{FaultOf}
 use Rattle.sheet.specs.Pairs.{Pairs, in_range}
 use Rattle.sheet.specs.Masks.{mask_shown, with_lower}
@@ -53,13 +53,6 @@ Outcome text before (Err f) after =
     (FaultOf order_form source.Order text f
     ⊎ ((f ≡ too_short) × ((sum : Stated) × Ends order_form text (stated sum) × (length before < length sum.places))))
     × (after ≡ before)
-
--- r is that ending, unless the memory is too short for the places
-abbrev pub Agrees : Ending Stated → List ℕ → Result Order Fault → List ℕ → Type 0
-Agrees (stated sum) before (Ok o) after = (sum ≡ stated_with o.limit sum.places) × (o.places ≡ length sum.places) × (after ≡ filled sum.places before)
-Agrees (stated sum) before (Err f) after = (f ≡ too_short) × (length before < length sum.places)
-Agrees (refused r number) before (Ok o) after = ⊥
-Agrees (refused r number) before (Err f) after = f ≡ in_order r number
 
 -- The text tells the order o, whose places stand in the memory: the sheet of its first numbers has their letters open.
 pub record Drawn (text before : List ℕ) (o : Order) (after : List ℕ) : Type 0 where

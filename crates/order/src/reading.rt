@@ -1,9 +1,11 @@
 // An order's text, read line by line.
-ghost use Rattle.std.specs.Prelude.{◌≡◌};
-ghost use Rattle.text.specs.Reading.{RestRead, LineRead, Ending, Ends};
+ghost use Rattle.std.specs.Prelude.{◌≡◌, ℕ, List, Result};
+ghost use Rattle.refusal.specs.declared.Fault.{Fault};
+ghost use Rattle.text.specs.Reading.{RestRead, LineRead};
+ghost use Rattle.order.specs.declared.Order.{Order};
 ghost use Rattle.order.specs.Letters.{Letters};
 ghost use Rattle.order.specs.Statements.{Said, place, Spelled, Stated, order_form};
-ghost use Rattle.order.specs.Texts.{Outcome, Agrees, Told};
+ghost use Rattle.order.specs.Texts.{Outcome, Told};
 ghost use Rattle.order.specs.Steps.{said_by, stated_by, whole_stated, Adds};
 
 use crate::Order;
@@ -166,12 +168,16 @@ impl Draft for OrderDraft {
     }
 }
 
-// The order that a text states, with the open letters of its places in the memory of a sheet, one number a place; or the
-// first refusal in the order of the checks, with its line.
+/// The order that a text states, with the open letters of its places in the memory of a sheet, one number a place: bit 0 is A
+/// and bit 25 is Z; the higher bits and the memory beyond the places stay. Or the first refusal in the order of the checks,
+/// with its line.
+///
+/// Refused with 11 to 13, 15, 18 and 19, and last with 9 where the memory has fewer numbers than there are places
+/// (docs/REFUSALS.md); the memory is then as it was.
 #[tactic(auto, using(crate::proofs::Telling::accepted_drawn, crate::proofs::Smallness::accepted_small))]
 pub fn read(text: &[u8], memory: &mut [u32]) -> Result<Order, Fault>
     ensures outcome { Outcome text.now memory.old result memory.new }
-    ensures only { (e : Ending Stated) → Ends order_form text.now e → Agrees e memory.old result memory.new }
+    ensures only { (other : Result Order Fault) (after : List ℕ) → Outcome text.now memory.old other after → (other ≡ result) × (after ≡ memory.new) }
     ensures told { Told text.now memory.old result memory.new }
 {
     let WholeOrder { limit, masks } = text::read(OrderDraft::new(), Source::Order, text)?;

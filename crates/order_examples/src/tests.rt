@@ -1,7 +1,9 @@
-// Examples of orders as texts: what is read of them into the memory of a sheet, what is refused and at which line.
+// Examples of orders as texts: what is read of them into the memory of a sheet, what is refused and at which line, and what is
+// printed of them and of prices.
 mod accepted;
 mod malformed;
 mod misplaced;
+mod prices;
 mod reports;
 
 use order::read;

@@ -166,7 +166,7 @@ impl Refusal {
     }
 }
 
-// Where the line is not asked for, `?` answers the refusal of a fault.
+/// Where the line is not asked for, `?` answers the refusal of a fault.
 impl From<Fault> for Refusal {
     ghost from_gives = { λ fault r. r ≡ fault.refusal };
 

@@ -1,5 +1,5 @@
 -- What is printed of a book and of an order fits on a page. Assumes nothing.
-use Rattle.std.proofs.Common.{◌≡◌, ℕ, ◌≤◌, ◌<◌, List, ◌++◌, length, codes, decimal, arith, length-append}
+use Rattle.std.proofs.Common.{ℕ, ◌≤◌, ◌++◌, length, codes, decimal, arith, length-append}
 use Rattle.text.proofs.Chaining.{decimal_short}
 use Rattle.book.specs.declared.books.Book.{Book}
 use Rattle.book.specs.Ranges.{Lawful}

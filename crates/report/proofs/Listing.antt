@@ -1,5 +1,5 @@
 -- The lines of a sheet: one more stroke, one more place, and how long all of them are. Assumes nothing.
-use Rattle.std.proofs.Common.{◌≡◌, ℕ, zero, suc, ◌+◌, ◌-◌, ◌*◌, ◌≤◌, Bool, true, false, cond, [], ◌∷◌, ◌++◌, length, take, decimal, ap, ◌∙◌, arith, length-append}
+use Rattle.std.proofs.Common.{◌≡◌, ℕ, zero, suc, ◌+◌, ◌-◌, ◌*◌, ◌≤◌, Bool, true, false, cond, [], ◌∷◌, ◌++◌, length, decimal, ap, ◌∙◌, arith, length-append}
 use Rattle.sheet.specs.Pairs.{Pairs}
 use Rattle.text.proofs.Chaining.{decimal_short}
 use Rattle.report.specs.Sheets.{if_open, open_letters, place_line, sheet_text}

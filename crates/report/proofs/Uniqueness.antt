@@ -10,7 +10,6 @@ use Rattle.book.specs.declared.books.Book.{Book}
 use Rattle.book.specs.Texts as books
 use Rattle.book.proofs.Telling as book
 use Rattle.order.specs.declared.limits.Limit.{Limit}
-use Rattle.order.specs.Texts as orders
 use Rattle.order.specs.Texts.{drawn_pairs}
 use Rattle.order.proofs.Telling as order
 use Rattle.report.specs.ReportSaid.{ReportSaid}

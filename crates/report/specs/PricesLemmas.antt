@@ -1,5 +1,5 @@
 -- Prices print as a few bytes: proofs, of which nothing has to be believed. Assumes nothing.
-use Rattle.std.proofs.Common.{◌≡◌, ℕ, ◌≤◌, ◌++◌, if◌then◌else◌, Bool, true, false, List, length, codes, decimal, ◌==◌, arith, length-append}
+use Rattle.std.proofs.Common.{ℕ, ◌≤◌, ◌++◌, if◌then◌else◌, Bool, true, false, List, length, codes, decimal, ◌==◌, arith, length-append}
 use Rattle.std.proofs.lemmas.Fmt.{length-decimal-le}
 use Rattle.scale.specs.declared.prices.times.Time.{Time}
 use Rattle.scale.specs.declared.prices.grades.Grade.{Grade}

@@ -1,6 +1,5 @@
 -- What a book's text and an order's text tell together, or which of the two is refused first. Assumes nothing.
-use Rattle.std.specs.Prelude.{◌≡◌, ℕ, ◌⊎◌, List, Err}
-use Rattle.refusal.specs.declared.Refusal.{Refusal}
+use Rattle.std.specs.Prelude.{ℕ, ◌⊎◌, List, Err}
 use Rattle.refusal.specs.declared.Source.TheVariants as source
 use Rattle.refusal.specs.declared.Fault.{Fault}
 use Rattle.text.specs.Readings.{FaultOf}

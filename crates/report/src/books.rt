@@ -19,7 +19,7 @@ fn put_heading(page: &mut Page, book: &Book)
     page.push(b'\n');
 }
 
-/// Puts a book on a page: how many parts and rules it has, and then the book as it is written.
+/// Puts a book on a page: `parts` and `rules` with their numbers, a line each, and then the book as it is written.
 pub fn put_summary(page: &mut Page, book: &Book)
     ensures { Appended page.old (book_summary book.now) page.new }
 {
@@ -28,6 +28,8 @@ pub fn put_summary(page: &mut Page, book: &Book)
 }
 
 /// What a book's text says: the summary of its book, or the refusal with its faulty line.
+///
+/// Refused with 11 to 17 (docs/REFUSALS.md).
 pub fn book_report(text: &[u8]) -> Report
     ensures report { BookReport text.now result }
     ensures only { (other : ReportSaid) → BookReport text.now other → other ≡ result }

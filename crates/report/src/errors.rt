@@ -5,10 +5,13 @@ use thiserror::Error;
 /// What a program refused. It is the error that the program ends with; what it printed of the refusal stands in its report.
 #[derive(Clone, Copy, PartialEq, Eq, Debug, Error)]
 pub enum Refused {
+    /// a call on the sheet
     #[error("the sheet is refused")]
     Sheet,
+    /// the book's text
     #[error("the book is refused")]
     Book,
+    /// the order's text
     #[error("the order is refused")]
     Order,
 }

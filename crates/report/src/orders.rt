@@ -10,7 +10,7 @@ use order::{Limit, read};
 use sheet::{MaskSheet, Sheet};
 use text::Page;
 
-/// Puts an order on a page: its limit, and then each place of its sheet with the open strokes.
+/// Puts an order on a page: `limit` and what it is, and then a line for each place of its sheet with the open strokes.
 pub fn put_order<S: Sheet>(page: &mut Page, limit: Limit, sheet: &S)
     ensures { Appended page.old (order_summary limit (S.shown sheet.now) (S.places sheet.now)) page.new }
 {
@@ -21,6 +21,8 @@ pub fn put_order<S: Sheet>(page: &mut Page, limit: Limit, sheet: &S)
 }
 
 /// What an order's text says: its summary, or the refusal with its faulty line.
+///
+/// Refused with 11 to 13, 15, 18 and 19 (docs/REFUSALS.md). 9 never comes: it has memory for 16 places.
 pub fn order_report(text: &[u8]) -> Report
     ensures report { OrderReport text.now result }
     ensures only { (other : ReportSaid) → OrderReport text.now other → other ≡ result }

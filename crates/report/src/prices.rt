@@ -18,7 +18,7 @@ pub trait Printed: Scale {
         ensures { Appended page.old (price_text self) page.new };
 }
 
-// The tenths of a second, or `barred`.
+/// The tenths of a second, or `barred`.
 impl Printed for Time {
     ghost use Rattle.scale.specs.Times.{time_text};
     ghost use Rattle.report.specs.PricesLemmas.{time_short};
@@ -28,15 +28,14 @@ impl Printed for Time {
     ghost short = { time_short };
 
     fn put(self, page: &mut Page) {
-        if self.tenths() == u32::MAX {
-            page.put(b"barred");
-        } else {
-            page.number(self.tenths() as u64);
+        match self.tenths() {
+            u32::MAX => page.put(b"barred"),
+            tenths => page.number(tenths as u64),
         }
     }
 }
 
-// The number of the blade heat, or `barred`.
+/// The number of the blade heat, or `barred`.
 impl Printed for Grade {
     ghost use Rattle.scale.specs.Grades.{grade_text};
     ghost use Rattle.report.specs.PricesLemmas.{grade_short};
@@ -46,15 +45,14 @@ impl Printed for Grade {
     ghost short = { grade_short };
 
     fn put(self, page: &mut Page) {
-        if self.level() == u8::MAX {
-            page.put(b"barred");
-        } else {
-            page.number(self.level() as u64);
+        match self.level() {
+            u8::MAX => page.put(b"barred"),
+            level => page.number(level as u64),
         }
     }
 }
 
-// The tenths, a space and the number of the blade heat, or `barred`.
+/// The tenths of a second, a space and the number of the blade heat, or `barred`.
 impl Printed for TimeGrade {
     ghost use Rattle.scale.specs.TimeGrades.{time_grade_text};
     ghost use Rattle.report.specs.PricesLemmas.{time_grade_short};

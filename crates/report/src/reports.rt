@@ -40,7 +40,8 @@ impl<'a> Report<'a> {
         }
     }
 
-    /// The report of a fault: `refused number layer line`, and below it the faulty line of the two texts, if there is one.
+    /// The report of a fault: `refused number layer line`, and below it the faulty line of the two texts, if there is one; an
+    /// empty one is shown empty.
     pub fn of_fault(book: &'a [u8], order: &'a [u8], fault: Fault) -> Report<'a>
         ensures text { FaultShown book.now order.now fault result.text }
         ensures refused { result.refused ≡ Some fault.source }
@@ -56,6 +57,7 @@ impl<'a> Report<'a> {
     }
 
     /// What is printed, in three pieces one after the other: the page, the faulty line, and the byte 10 that ends that line.
+    /// The last two are empty where no line is at fault.
     pub fn pieces(&self) -> (&[u8], &[u8], &[u8])
         ensures { result.0.now ++ (result.1.now ++ result.2.now) ≡ self.now.text }
     {

@@ -1,7 +1,6 @@
 // Examples at the edges of the three scales, and one function over all of them.
 use crate::cheaper_whole;
 use scale::{Grade, Scale, Time, TimeGrade};
-use std::test::Fail;
 
 #[test]
 fn a_sum_of_times_is_barred_at_the_largest_number(rt: HostRuntime) {
@@ -81,16 +80,4 @@ fn the_cheaper_whole_is_found_on_every_scale(rt: HostRuntime) {
         TimeGrade::new(5, 0),
     );
     assert_eq!(rt; whole, TimeGrade::new(50, 1));
-}
-
-#[test]
-fn a_price_prints_its_numbers_or_barred(rt: HostRuntime) -> Result<(), Fail> {
-    let heap = rt.alloc();
-    assert_eq!(rt; Time::new(45).to_string(heap)?.as_str(), "45");
-    assert_eq!(rt; Grade::new(2).to_string(heap)?.as_str(), "2");
-    assert_eq!(rt; TimeGrade::new(45, 2).to_string(heap)?.as_str(), "45 2");
-    assert_eq!(rt; Time::barred().to_string(heap)?.as_str(), "barred");
-    assert_eq!(rt; Grade::barred().to_string(heap)?.as_str(), "barred");
-    assert_eq!(rt; TimeGrade::new(45, 255).to_string(heap)?.as_str(), "barred");
-    Ok(())
 }

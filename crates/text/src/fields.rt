@@ -7,7 +7,8 @@ use crate::lines::place;
 use refusal::Refusal;
 use std::str::from_utf8;
 
-// The number that a field writes, if it writes one.
+/// The number that a field writes: one to six decimal digits, without a leading zero save `0` itself. None where it writes
+/// none.
 pub fn number(field: &[u8]) -> Option<u32>
     ensures { MatchOption result ((n : ℕ) → Writes field.now n → ⊥) (λ n. Writes field.now n) }
 {
@@ -25,7 +26,7 @@ pub fn number(field: &[u8]) -> Option<u32>
     digits.parse().ok()
 }
 
-// The blade grade that a number of a text says, which is at most 254.
+/// The blade grade that a number of a text says. Refused with 15 (docs/REFUSALS.md) above 254.
 pub fn grade(number: u32) -> Result<u8, Refusal>
     ensures { MatchResult result (λ grade. (grade ≡ number) × (number ≤ 254)) (λ r. (OutOfRange ≡ r) × (254 < number)) }
 {
@@ -36,7 +37,8 @@ pub fn grade(number: u32) -> Result<u8, Refusal>
     Ok(grade)
 }
 
-// The field in front of `rest`, after its space, and what follows it.
+/// The field in front of `rest`, after its space, and what follows it: the field ends before the next space, or with `rest`. It
+/// may be empty. None where `rest` does not begin with a space.
 pub fn field(rest: &[u8]) -> Option<(&[u8], &[u8])>
     ensures { MatchOption result ((x : List ℕ) → 32 ∷ x ≢ rest.now) (λ x. Field rest.now x.0.now x.1.now) }
 {
@@ -44,7 +46,8 @@ pub fn field(rest: &[u8]) -> Option<(&[u8], &[u8])>
     Some(tail.split_at(place(tail, b' ')))
 }
 
-// The number in front of `rest`, after its space, and what follows it.
+/// The number in front of `rest`, after its space, and what follows it; none where no field stands there, or one that writes
+/// none.
 pub fn number_field(rest: &[u8]) -> Option<(u32, &[u8])>
     ensures { MatchOption result ((n : ℕ) (more : List ℕ) → NumberField rest.now n more → ⊥) (λ x. NumberField rest.now x.0 x.1.now) }
 {
@@ -53,7 +56,7 @@ pub fn number_field(rest: &[u8]) -> Option<(u32, &[u8])>
     Some((n, more))
 }
 
-// The stroke in front of `rest`, after its space, and what follows it.
+/// The stroke in front of `rest`, a letter A to Z after its space, and what follows it; none where no such field stands there.
 pub fn stroke_field(rest: &[u8]) -> Option<(u8, &[u8])>
     ensures { MatchOption result ((s : ℕ) (more : List ℕ) → StrokeField rest.now s more → ⊥) (λ x. StrokeField rest.now x.0 x.1.now) }
 {
@@ -68,7 +71,7 @@ pub fn stroke_field(rest: &[u8]) -> Option<(u8, &[u8])>
     Some((*s, more))
 }
 
-// The numbers that `rest` is made of, if it has just that many fields and each writes a number.
+/// The numbers that `rest` is made of, if it has just that many fields and each writes a number.
 pub fn numbers<const N: usize>(rest: &[u8]) -> Option<[u32; N]>
     ensures { MatchOption result ((ns : List ℕ) → Numbered N rest.now ns → ⊥) (λ ns. Numbered N rest.now ns) }
 {

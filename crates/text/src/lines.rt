@@ -13,7 +13,7 @@ pub(crate) fn place(text: &[u8], mark: u8) -> usize
     text.iter().position(|b| *b == mark).unwrap_or(text.len())
 }
 
-// The first line of a text, without its byte 10, and what follows it; none where no byte 10 ends it.
+/// The first line of a text, without its byte 10, and what follows it; none where no byte 10 ends it.
 pub fn first_line(text: &[u8]) -> Option<(&[u8], &[u8])>
     ensures { MatchOption result (Lacks 10 text.now) (λ x. Starts text.now x.0.now x.1.now) }
 {
@@ -21,7 +21,8 @@ pub fn first_line(text: &[u8]) -> Option<(&[u8], &[u8])>
     Some((&text[..end], &text[end + 1..]))
 }
 
-// The text's line of that number, counted from 1, without its byte 10.
+/// The text's line of that number, counted from 1, without its byte 10. What stands after the last byte 10 is a line too, if
+/// anything does. None for number 0 and past the last line.
 pub fn line(text: &[u8], number: usize) -> Option<&[u8]>
     ensures { MatchOption result ((line : List ℕ) → LineAt text.now number line → ⊥) (λ x. LineAt text.now number x.now) }
 {
@@ -39,8 +40,8 @@ pub fn line(text: &[u8], number: usize) -> Option<&[u8]>
     Some(first_line(rest).map_or(rest, |(line, _)| line))
 }
 
-// The line that a fault names, a part of the text that it names. The two texts stay two parameters, a form that this project
-// keeps to: one function of both texts and a fault.
+/// The line that a fault names, a part of the text that it names; none where it is of a sheet, or names line 0 or one past the
+/// last. The two texts stay two parameters, a form that this project keeps to: one function of both texts and a fault.
 pub fn faulty_line<'a>(book: &'a [u8], order: &'a [u8], fault: Fault) -> Option<&'a [u8]>
     ensures { MatchOption result ((line : List ℕ) → FaultyLine fault.source book.now order.now fault.line line → ⊥) (λ x. FaultyLine fault.source book.now order.now fault.line x.now) }
 {

@@ -6,30 +6,32 @@ ghost use Rattle.text.specs.Readings.{Takes, Finishes, ReadAs};
 use crate::lines::first_line;
 use refusal::{Fault, Refusal, Source};
 
-// What the lines so far of a text state together, while the text is read.
+/// What the lines so far of a text state together, while the text is read.
 pub trait Draft: Drop {
-    // what a whole text states, as a value
+    /// What a whole text states, as a value.
     type Whole;
 
-    // what a line can state, what lines state together, and the form of the texts
+    /// What a line can state.
     ghost Said: { Type 0 };
 
+    /// What lines state together.
     ghost Sum: { Type 0 };
 
+    /// The form of the texts: how each line is spelled, and in which order it is tested.
     ghost form: { Form Said Sum };
 
-    // what the lines so far state
+    /// What the lines so far state.
     ghost stated: { Self → Sum };
 
-    // what the whole text states
+    /// What the whole text states.
     ghost whole: { Self.Whole → Sum };
 
-    // Takes what one more line states, or refuses the line and states what it stated.
+    /// Takes what one more line states; the line is without its byte 10. Where it is refused, the draft states what it stated.
     fn take(&mut self, line: &[u8]) -> Result<(), Refusal>
         ensures answer { MatchResult result (λ _. Takes form (stated self.old) line.now (stated self.new)) (LineRefused form (stated self.old) line.now) }
         ensures refused { OnErr result (stated self.new ≡ stated self.old) };
 
-    // What the text states that ends here, or why it is refused.
+    /// What the text states that ends here, or why it is refused.
     fn finish(self) -> Result<Self::Whole, Refusal>
         ensures { Finishes form whole (stated self) result };
 }
@@ -45,6 +47,9 @@ fn take_line<'a, D: Draft>(draft: &mut D, rest: &'a [u8]) -> Result<&'a [u8], Re
 }
 
 /// What the text states besides what the draft states already; or the first refusal in the order of the tests, with its line.
+///
+/// Refused with 11 at line 0 where the text is longer than 8,192 bytes; then with 12 where no byte 10 ends a line, or as the
+/// draft refuses it; and one past the last line as the draft refuses the whole text (docs/REFUSALS.md).
 pub fn read<D: Draft>(draft: D, source: Source, text: &[u8]) -> Result<D::Whole, Fault>
     ensures { ReadAs (continued D.form (D.stated draft)) D.whole source text.now result }
 {

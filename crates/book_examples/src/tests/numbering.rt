@@ -11,12 +11,11 @@ fn numbered(rt: &impl Abort, refusal: Refusal, number: u8, in_book: Layer, in_or
 }
 
 #[test]
-fn the_layer_of_1_to_10_and_31_is_the_sheet(rt: HostRuntime) {
+fn the_layer_of_1_to_10_is_the_sheet(rt: HostRuntime) {
     numbered(&rt, Refusal::NoSuchPlace, 1, Layer::Sheet, Layer::Sheet);
     numbered(&rt, Refusal::LentTooShort, 9, Layer::Sheet, Layer::Sheet);
     numbered(&rt, Refusal::NoRun, 10, Layer::Sheet, Layer::Sheet);
-    numbered(&rt, Refusal::OutOfMemory, 31, Layer::Sheet, Layer::Sheet);
-    assert_eq!(rt; Refusal::OutOfMemory.layer(Source::Sheet), Layer::Sheet);
+    assert_eq!(rt; Refusal::NoRun.layer(Source::Sheet), Layer::Sheet);
 }
 
 #[test]

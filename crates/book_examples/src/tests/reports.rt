@@ -1,23 +1,33 @@
 // What is printed, byte for byte.
 use super::JIG;
 use refusal::{Fault, Refusal, Source};
-use report::{book_report, fault_report, printed};
-use std::alloc::Global;
+use report::{Refused, Report, book_report};
+use std::alloc::{AllocError, Global};
 use std::process::Abort;
 use std::test::Fail;
 
+// What the report prints, in one piece.
+fn printed(heap: Global, report: &Report) -> Result<Vec<u8>, AllocError> {
+    let (page, line, end) = report.pieces();
+    let mut text = page.to_vec(heap)?;
+    text.extend_from_slice(line)?;
+    text.extend_from_slice(end)?;
+    Ok(text)
+}
+
 // The book is accepted, and just this is printed.
 fn accepted(rt: &impl Abort, heap: Global, text: &[u8], expected: &[u8]) -> Result<(), Fail> {
-    let out = book_report(heap, text)?;
-    assert_eq!(rt; out.as_slice(), expected);
+    let report = book_report(text);
+    assert_eq!(rt; report.ending(), Ok(()));
+    assert_eq!(rt; printed(heap, &report)?.as_slice(), expected);
     Ok(())
 }
 
 // The book is refused, and just this is printed.
 fn refused(rt: &impl Abort, heap: Global, text: &[u8], expected: &[u8]) -> Result<(), Fail> {
-    let report = book_report(heap, text);
-    assert!(rt; report.is_err(), "the book is accepted");
-    assert_eq!(rt; printed(&report), expected);
+    let report = book_report(text);
+    assert_eq!(rt; report.ending(), Err(Refused::Book));
+    assert_eq!(rt; printed(heap, &report)?.as_slice(), expected);
     Ok(())
 }
 
@@ -103,26 +113,22 @@ fn a_fault_of_an_order_shows_a_line_of_the_order(rt: HostRuntime) -> Result<(), 
         source: Source::Order,
         line: 2,
     };
-    let out = fault_report(rt.alloc(), JIG, b"t 50\nt 50\n", fault)?;
-    assert_eq!(rt; out.as_slice(), &b"refused 18 order 2\nt 50\n"[..]);
+    let report = Report::of_fault(JIG, b"t 50\nt 50\n", fault);
+    assert_eq!(rt; report.ending(), Err(Refused::Order));
+    assert_eq!(rt;
+        printed(rt.alloc(), &report)?.as_slice(),
+        &b"refused 18 order 2\nt 50\n"[..]
+    );
     Ok(())
 }
 
 #[test]
 fn a_fault_of_a_sheet_shows_no_line(rt: HostRuntime) -> Result<(), Fail> {
-    let short = fault_report(
-        rt.alloc(),
-        JIG,
-        b"t 50\n",
-        Fault::of_sheet(Refusal::LentTooShort),
-    )?;
-    assert_eq!(rt; short.as_slice(), &b"refused 9 sheet 0\n"[..]);
-    let memory = fault_report(
-        rt.alloc(),
-        JIG,
-        b"t 50\n",
-        Fault::of_sheet(Refusal::OutOfMemory),
-    )?;
-    assert_eq!(rt; memory.as_slice(), &b"refused 31 sheet 0\n"[..]);
+    let report = Report::of_fault(JIG, b"t 50\n", Fault::of_sheet(Refusal::LentTooShort));
+    assert_eq!(rt; report.ending(), Err(Refused::Sheet));
+    assert_eq!(rt;
+        printed(rt.alloc(), &report)?.as_slice(),
+        &b"refused 9 sheet 0\n"[..]
+    );
     Ok(())
 }

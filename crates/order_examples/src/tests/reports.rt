@@ -1,22 +1,32 @@
 // What is printed of orders, byte for byte.
-use report::{order_report, printed};
-use std::alloc::Global;
+use report::{Refused, Report, order_report};
+use std::alloc::{AllocError, Global};
 use std::process::Abort;
 use std::test::Fail;
 
+// What the report prints, in one piece.
+// As for a book, in a crate of its own: a library for what the two tests share would be no plainer.
+fn printed(heap: Global, report: &Report) -> Result<Vec<u8>, AllocError> {
+    let (page, line, end) = report.pieces();
+    let mut text = page.to_vec(heap)?;
+    text.extend_from_slice(line)?;
+    text.extend_from_slice(end)?;
+    Ok(text)
+}
+
 // The order is accepted, and just this is printed.
 fn accepted(rt: &impl Abort, heap: Global, text: &[u8], expected: &[u8]) -> Result<(), Fail> {
-    let out = order_report(heap, text)?;
-    assert_eq!(rt; out.as_slice(), expected);
+    let report = order_report(text);
+    assert_eq!(rt; report.ending(), Ok(()));
+    assert_eq!(rt; printed(heap, &report)?.as_slice(), expected);
     Ok(())
 }
 
 // The order is refused, and just this is printed.
-// As for a book, in a crate of its own: a library for what the two tests share would be no plainer.
 fn refused(rt: &impl Abort, heap: Global, text: &[u8], expected: &[u8]) -> Result<(), Fail> {
-    let report = order_report(heap, text);
-    assert!(rt; report.is_err(), "the order is accepted");
-    assert_eq!(rt; printed(&report), expected);
+    let report = order_report(text);
+    assert_eq!(rt; report.ending(), Err(Refused::Order));
+    assert_eq!(rt; printed(heap, &report)?.as_slice(), expected);
     Ok(())
 }
 

@@ -1,4 +1,3 @@
-use Rattle.std.proofs.Common.{subst, sym, refl, ◌∙◌, ap}
 use Rattle.report.specs.Reports.{BookReport}
 use Rattle.report.proofs.Uniqueness.{one_book_report}
 use Rattle.report.proofs.Reporting.{book_reported, book_refused}
