@@ -1,7 +1,9 @@
 // Examples of marked sheets: what they quote under a mark and after the way back, which slips they refuse, and what events answer.
 mod clients;
 mod guesses;
+mod lives;
 mod replays;
+mod searches;
 mod slips;
 mod standing;
 

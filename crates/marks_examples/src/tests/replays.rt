@@ -28,7 +28,7 @@ fn replays<S: Scale + PartialEq + Debug, H: Sheet>(
     for (event, _) in life {
         events.push(*event)?;
     }
-    let mut answers = vec![in heap; Err(Refusal::OutOfMemory); life.len()]?;
+    let mut answers = vec![in heap; Err(Refusal::NoRun); life.len()]?;
     replay(
         sheet,
         SHEET,
