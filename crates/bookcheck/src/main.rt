@@ -2,7 +2,7 @@
 // faulty line.
 #![tactic(auto)]
 
-use report::{book_report, printed};
+use report::book_report;
 use std::fs;
 use std::io::Write;
 
@@ -13,8 +13,12 @@ fn text_of(rt: &HostRuntime, path: &str) -> Vec<u8> {
 
 fn main(rt: HostRuntime) -> anyhow::Result<()> {
     let text = text_of(&rt, "book.txt");
-    let report = book_report(rt.alloc(), &text);
-    rt.stdout().write_all(printed(&report))?;
-    report?;
+    let report = book_report(&text);
+    let (page, line, end) = report.pieces();
+    let mut out = rt.stdout();
+    out.write_all(page)?;
+    out.write_all(line)?;
+    out.write_all(end)?;
+    report.ending()?;
     Ok(())
 }

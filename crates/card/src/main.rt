@@ -3,7 +3,6 @@
 #![tactic(auto)]
 
 use printing::card_report;
-use report::printed;
 use std::fs;
 use std::io::{Read, Write};
 
@@ -17,8 +16,12 @@ fn main(rt: HostRuntime) -> anyhow::Result<()> {
     let mut card = text_of(&rt, "card.txt");
     let mut order = Vec::new(rt.alloc());
     rt.stdin().read_to_end(&mut order)?;
-    let report = card_report(rt.alloc(), &book, &mut card, &order);
-    rt.stdout().write_all(printed(&report))?;
-    report?;
+    let report = card_report(&book, &mut card, &order);
+    let (page, line, end) = report.pieces();
+    let mut out = rt.stdout();
+    out.write_all(page)?;
+    out.write_all(line)?;
+    out.write_all(end)?;
+    report.ending()?;
     Ok(())
 }

@@ -4,4 +4,5 @@ mod Quoting
 mod Carding
 mod Lengths
 mod Bounding
+mod Reporting
 mod Uniqueness

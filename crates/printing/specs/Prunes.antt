@@ -16,6 +16,6 @@ abbrev pub PrunedBy : {S : Type 0} → Ops S → S → Book → ℕ → Pairs �
 PrunedBy {S} o limit b n before after = (least : S) × (closed : ℕ) × PrunedTo o (weights o b) (rules_of b) n before limit after least closed
 
 -- the same within an order's limit, or the sheet is refused
-abbrev pub PruneEnds : Limit → Book → ℕ → Pairs → Pairs → Result (Unit {0}) Fault → Type 0
+abbrev pub PruneEnds : {A : Type 0} → Limit → Book → ℕ → Pairs → Pairs → Result A Fault → Type 0
 PruneEnds l b n before after r =
     MatchResult r (λ _. PrunedBy (bound_of l).ops (bound_of l).limit b n before after) (SheetRefused (bound_of l).ops (bound_of l).limit b n before)

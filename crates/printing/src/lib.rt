@@ -4,6 +4,7 @@
 mod cards;
 mod prunes;
 mod quotes;
+mod reports;
 
 pub use cards::card_report;
 pub use quotes::quote_report;

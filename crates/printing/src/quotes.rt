@@ -9,6 +9,7 @@ ghost use Rattle.printing.specs.Refusals.{SheetRefused};
 ghost use Rattle.printing.specs.Quotes.{quote_text, QuotePrinted, QuoteEnds, QuoteTold, QuoteRefused, QuoteReport};
 
 use crate::prunes::{ENTRIES, prune_on};
+use crate::reports::report_of;
 use book::Book;
 use order::Limit;
 use planner::quote;
@@ -34,7 +35,7 @@ fn put_quote<S: Printed, H: Sheet>(page: &mut Page, cost: S, run: &[u8], closed:
     put_sheet(page, sheet);
 }
 
-// Prunes the sheet, quotes it and tells both, within a limit of any scale.
+// Prunes the sheet, quotes it and puts both on a page, within a limit of any scale.
 fn quote_on<S: Printed, H: Sheet>(
     book: &Book,
     sheet: &mut H,
@@ -109,7 +110,7 @@ fn quote_by<H: Sheet>(book: &Book, sheet: &mut H, limit: Limit) -> Result<Page, 
     }
 }
 
-// What is printed where neither text and no sheet is at fault.
+// The page of the quote, or the first fault of the book, the order and its sheet.
 fn quoted(book: &[u8], order: &[u8]) -> Result<Page, Fault>
     ensures { MatchResult result (λ page. QuoteTold book.now order.now (page_text page)) (QuoteRefused book.now order.now) }
 {
@@ -130,8 +131,5 @@ pub fn quote_report<'a>(book: &'a [u8], order: &'a [u8]) -> Report<'a>
     ensures report { QuoteReport book.now order.now result }
     ensures only { (other : ReportSaid) → QuoteReport book.now order.now other → other ≡ result }
 {
-    match quoted(book, order) {
-        Ok(page) => Report::of(page),
-        Err(fault) => Report::of_fault(book, order, fault),
-    }
+    report_of(book, order, quoted(book, order))
 }

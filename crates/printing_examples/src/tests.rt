@@ -5,7 +5,7 @@ mod large;
 mod refusals;
 
 use printing::quote_report;
-use report::printed;
+use report::Report;
 use std::alloc::{AllocError, Global};
 use std::process::Abort;
 use std::test::Fail;
@@ -32,6 +32,17 @@ fn order_of(heap: Global, limit: &[u8], places: &[u8]) -> Result<Vec<u8>, AllocE
     Ok(order)
 }
 
+// Just this is printed.
+fn prints(rt: &impl Abort, heap: Global, report: &Report, expected: &[u8]) -> Result<(), Fail> {
+    let (page, line, end) = report.pieces();
+    let mut out = Vec::new(heap);
+    out.extend_from_slice(page)?;
+    out.extend_from_slice(line)?;
+    out.extend_from_slice(end)?;
+    assert_eq!(rt; out.as_slice(), expected);
+    Ok(())
+}
+
 // The order is quoted, and just this is printed.
 fn quoted(
     rt: &impl Abort,
@@ -40,9 +51,9 @@ fn quoted(
     order: &[u8],
     expected: &[u8],
 ) -> Result<(), Fail> {
-    let out = quote_report(heap, book, order)?;
-    assert_eq!(rt; out.as_slice(), expected);
-    Ok(())
+    let report = quote_report(book, order);
+    assert!(rt; report.ending().is_ok(), "the order is refused");
+    prints(rt, heap, &report, expected)
 }
 
 // The book, the order or the sheet is refused, and just this is printed.
@@ -53,8 +64,7 @@ fn refused(
     order: &[u8],
     expected: &[u8],
 ) -> Result<(), Fail> {
-    let report = quote_report(heap, book, order);
-    assert!(rt; report.is_err(), "the order is quoted");
-    assert_eq!(rt; printed(&report), expected);
-    Ok(())
+    let report = quote_report(book, order);
+    assert!(rt; report.ending().is_err(), "the order is quoted");
+    prints(rt, heap, &report, expected)
 }

@@ -3,7 +3,6 @@
 #![tactic(auto)]
 
 use printing::quote_report;
-use report::printed;
 use std::fs;
 use std::io::{Read, Write};
 
@@ -16,8 +15,12 @@ fn main(rt: HostRuntime) -> anyhow::Result<()> {
     let book = text_of(&rt, "book.txt");
     let mut order = Vec::new(rt.alloc());
     rt.stdin().read_to_end(&mut order)?;
-    let report = quote_report(rt.alloc(), &book, &order);
-    rt.stdout().write_all(printed(&report))?;
-    report?;
+    let report = quote_report(&book, &order);
+    let (page, line, end) = report.pieces();
+    let mut out = rt.stdout();
+    out.write_all(page)?;
+    out.write_all(line)?;
+    out.write_all(end)?;
+    report.ending()?;
     Ok(())
 }

@@ -1,7 +1,6 @@
 // Cards, and what is printed of them.
-use super::JIG;
+use super::{JIG, prints};
 use printing::card_report;
-use report::printed;
 use std::alloc::Global;
 use std::process::Abort;
 use std::test::Fail;
@@ -15,8 +14,9 @@ fn pruned(
     rows: &[u8],
     after: &[u8],
 ) -> Result<(), Fail> {
-    let out = card_report(heap, JIG, card, order)?;
-    assert_eq!(rt; out.as_slice(), rows);
+    let report = card_report(JIG, card, order);
+    assert!(rt; report.ending().is_ok(), "the card is refused");
+    prints(rt, heap, &report, rows)?;
     assert_eq!(rt; &*card, after);
     Ok(())
 }
@@ -31,9 +31,9 @@ fn refused<const N: usize>(
     expected: &[u8],
 ) -> Result<(), Fail> {
     let mut lent = *card;
-    let report = card_report(heap, book, &mut lent, order);
-    assert!(rt; report.is_err(), "the card is pruned");
-    assert_eq!(rt; printed(&report), expected);
+    let report = card_report(book, &mut lent, order);
+    assert!(rt; report.ending().is_err(), "the card is pruned");
+    prints(rt, heap, &report, expected)?;
     assert_eq!(rt; lent, *card);
     Ok(())
 }
