@@ -49,7 +49,7 @@ module _ (book order events : List ℕ) (old : List (List ℕ)) where
   one_events b l places one two p q = one_print (bound_of l).ops (laws_of l) (notation_of l) (bound_of l).text b (length places) (drawn_pairs places) events one two p q
 
   abbrev OfSheet : Book → Limit → List (List ℕ) → Fault → Type 0
-  OfSheet b l places f = ListTooShort book order events (length old) f
+  OfSheet b l places f = ListTooShort events (length old) f
 
   -- both are told
   told_once : (n m : ℕ) (new other : List (List ℕ)) → OfficeReport book order events old (Ok n) new → OfficeReport book order events old (Ok m) other → (n ≡ m) × (new ≡ other)

@@ -72,18 +72,18 @@ pub record Heads (Wanted : List (List ℕ) → Type 0) (n : ℕ) (old new : List
   pub fits : n ≤ length old
   pub written : new ≡ texts ++ drop n old
 
+-- a list of so many entries is too short for the lines of the events
+abbrev pub ListTooShort : List ℕ → ℕ → Fault → Type 0
+ListTooShort events room f = (f ≡ on_sheet LentTooShort) × ((lines : ℕ) × HasLines events lines × (room < lines))
+
 module _ (book order events : List ℕ) where
   -- the events are played on the sheet of an order, with limits as its limit is one
   abbrev pub EventsTold : Book → Limit → List (List ℕ) → List (List ℕ) → Type 0
   EventsTold b l places texts = EventsPrinted (bound_of l).ops (notation_of l) (bound_of l).text b (length places) (drawn_pairs places) events texts
 
-  -- a list of so many entries is too short for the lines of the events
-  abbrev pub ListTooShort : ℕ → Fault → Type 0
-  ListTooShort room f = (f ≡ on_sheet LentTooShort) × ((lines : ℕ) × HasLines events lines × (room < lines))
-
   -- what is refused: the book's text, else the order's, else the list of so many entries
   abbrev pub OfficeRefused : ℕ → Fault → Type 0
-  OfficeRefused room f = FirstRefused book order (λ b l places f. ListTooShort room f) f
+  OfficeRefused room f = FirstRefused book order (λ b l places f. ListTooShort events room f) f
 
   -- how the events end, and what is then in the list that was `old`: both texts are told, n is how many lines the events have, and
   -- the first n entries are what is printed, one a line; or a fault is reported, and the list is as it was

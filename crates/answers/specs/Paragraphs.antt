@@ -8,18 +8,21 @@ use Rattle.events.specs.declared.Event.TheVariants.{Strike, Mark, Keep, Back, Pr
 use Rattle.events.specs.declared.Accepted.{Accepted}
 use Rattle.events.specs.declared.Accepted.TheVariants.{Done, Marked, Pruned, Quoted}
 
+-- a word and the level of a slip, and `struck` with its place and stroke
+abbrev pub level_text : List ℕ → ℕ → List ℕ
+level_text word level = word ++ (decimal level ++ codes "\n")
+
+abbrev pub struck_text : ℕ → ℕ → List ℕ
+struck_text place stroke = codes "struck " ++ (decimal place ++ (codes " " ++ (stroke ∷ codes "\n")))
+
 -- `struck place stroke`, `kept level` and `back level`; a mark, a prune and a quote answer more than that they are done
 abbrev pub done_text : {S : Type 0} → Event S → List ℕ
-done_text (Strike place stroke) = codes "struck " ++ (decimal place ++ (codes " " ++ (stroke ∷ codes "\n")))
+done_text (Strike place stroke) = struck_text place stroke
 done_text Mark = []
-done_text (Keep number level) = codes "kept " ++ (decimal level ++ codes "\n")
-done_text (Back number level) = codes "back " ++ (decimal level ++ codes "\n")
+done_text (Keep number level) = level_text (codes "kept ") level
+done_text (Back number level) = level_text (codes "back ") level
 done_text (Prune limit) = []
 done_text (Quote limit) = []
-
--- `marked` and the level of the mark that was set
-abbrev pub marked_text : ℕ → List ℕ
-marked_text level = codes "marked " ++ (decimal level ++ codes "\n")
 
 -- what a refused event answers: `refused`, the number, the layer, which is `sheet` for what an event is refused for, and 0
 abbrev pub refused_event_text : Refusal → List ℕ
@@ -38,7 +41,7 @@ module _ {S : Type 0} (price_text : S → List ℕ) where
   -- what an accepted event answers, on a sheet of so many places
   abbrev pub accepted_text : ℕ → Event S → Accepted S → List ℕ
   accepted_text places e Done = done_text e
-  accepted_text places e (Marked level) = marked_text level
+  accepted_text places e (Marked level) = level_text (codes "marked ") level
   accepted_text places e (Pruned p) = pruned_text p
   accepted_text places e (Quoted cost run) = quoted_text cost (take places run)
 

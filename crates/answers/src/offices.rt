@@ -1,9 +1,9 @@
 // Events at the sheet of an order.
-ghost use Rattle.std.specs.Prelude.{◌≡◌, ◌≤◌, ℕ, List, Result, length};
+ghost use Rattle.std.specs.Prelude.{◌≡◌, ◌≤◌, ℕ, List, Result, MatchResult, length};
 ghost use Rattle.report.specs.ReportSaid.{ReportSaid};
 ghost use Rattle.report.specs.Prices.{bound_of};
 ghost use Rattle.answers.specs.Texts.{HasLines};
-ghost use Rattle.answers.specs.Offices.{notation_of, EventsPrinted, Heads, OfficeReport};
+ghost use Rattle.answers.specs.Offices.{notation_of, EventsPrinted, Heads, ListTooShort, OfficeReport};
 
 use crate::plays::tell_lines;
 use crate::texts::line_count;
@@ -17,6 +17,17 @@ use sheet::{MaskSheet, Sheet};
 
 // The entries of a board for a sheet of 16 places and a book of 32 parts, the most that there are.
 const BOARD: usize = 4352;
+
+// How many lines the events have, if the list has an entry for each.
+fn lines_within(events: &[u8], told: &[Told]) -> Result<usize, Fault>
+    ensures { MatchResult result (λ n. HasLines events.now n × (n ≤ length told.now)) (λ f. ListTooShort events.now (length told.now) f) }
+{
+    let lines = line_count(events);
+    if told.len() < lines {
+        return Err(Fault::of_sheet(Refusal::LentTooShort));
+    }
+    Ok(lines)
+}
 
 // Plays the events of the text on the sheet and tells its lines, at the scale that the limit of an order names.
 fn tell_by<'a, H: Sheet>(
@@ -104,11 +115,10 @@ pub fn office_report<'a>(
         Ok(drawn) => drawn,
         Err(fault) => return Err(Report::of_fault(book, order, fault)),
     };
-    let lines = line_count(events);
-    if told.len() < lines {
-        let short = Fault::of_sheet(Refusal::LentTooShort);
-        return Err(Report::of_fault(book, order, short));
-    }
+    let lines = match lines_within(events, told) {
+        Ok(lines) => lines,
+        Err(fault) => return Err(Report::of_fault(book, order, fault)),
+    };
     let mut sheet = MaskSheet::new(&mut memory[..drawn.places]);
     tell_by(&read, &mut sheet, drawn.limit, events, lines, told);
     Ok(lines)

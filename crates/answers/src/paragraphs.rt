@@ -1,7 +1,7 @@
 // The answer of an event, as it is printed.
 ghost use Rattle.std.specs.Prelude.{◌≡◌, ◌≤◌, length, take};
 ghost use Rattle.text.specs.Pages.{Appended};
-ghost use Rattle.answers.specs.Paragraphs.{done_text, pruned_text, quoted_text, accepted_text, marked_text, refused_event_text, answer_text};
+ghost use Rattle.answers.specs.Paragraphs.{level_text, struck_text, done_text, pruned_text, quoted_text, accepted_text, refused_event_text, answer_text};
 
 use crate::figures::Figures;
 use events::{Accepted, Answer, Event};
@@ -10,30 +10,40 @@ use refusal::{Fault, Refusal};
 use scale::Scale;
 use text::Page;
 
+// A word, and the level of a slip.
+fn put_level(page: &mut Page, word: &[u8], level: usize)
+    requires { length word.now ≤ 8 }
+    ensures text { Appended page.old (level_text word.now level) page.new }
+    ensures short { length (level_text word.now level) ≤ 96 }
+{
+    page.put(word);
+    page.number(level as u64);
+    page.push(b'\n');
+}
+
+// The place and the stroke of a strike.
+fn put_struck(page: &mut Page, place: usize, stroke: u8)
+    ensures text { Appended page.old (struck_text place stroke) page.new }
+    ensures short { length (struck_text place stroke) ≤ 96 }
+{
+    page.put(b"struck ");
+    page.number(place as u64);
+    page.push(b' ');
+    page.push(stroke);
+    page.push(b'\n');
+}
+
 // A strike by its place and stroke, a keep and a back by the level of their slip. The other events are answered by more than that
 // they are done.
+#[tactic(auto, using(text::proofs::Appending::appended_none))]
 fn put_done<S: Scale>(page: &mut Page, event: &Event<S>)
     ensures text { Appended page.old (done_text event.now) page.new }
     ensures short { length (done_text event.now) ≤ 96 }
 {
     match *event {
-        Event::Strike { place, stroke } => {
-            page.put(b"struck ");
-            page.number(place as u64);
-            page.push(b' ');
-            page.push(stroke);
-            page.push(b'\n');
-        }
-        Event::Keep { level, .. } => {
-            page.put(b"kept ");
-            page.number(level as u64);
-            page.push(b'\n');
-        }
-        Event::Back { level, .. } => {
-            page.put(b"back ");
-            page.number(level as u64);
-            page.push(b'\n');
-        }
+        Event::Strike { place, stroke } => put_struck(page, place, stroke),
+        Event::Keep { level, .. } => put_level(page, b"kept ", level),
+        Event::Back { level, .. } => put_level(page, b"back ", level),
         Event::Mark | Event::Prune { .. } | Event::Quote { .. } => {}
     }
 }
@@ -86,20 +96,10 @@ fn put_accepted<S: Figures>(
 {
     match accepted {
         Accepted::Done => put_done(page, event),
-        Accepted::Marked { level } => put_marked(page, *level),
+        Accepted::Marked { level } => put_level(page, b"marked ", *level),
         Accepted::Pruned(pruned) => put_pruned(page, pruned),
         Accepted::Quoted { cost, run } => put_quoted(page, *cost, front(run, places)),
     }
-}
-
-// The level of the mark that was set.
-fn put_marked(page: &mut Page, level: usize)
-    ensures text { Appended page.old (marked_text level) page.new }
-    ensures short { length (marked_text level) ≤ 96 }
-{
-    page.put(b"marked ");
-    page.number(level as u64);
-    page.push(b'\n');
 }
 
 // Puts what is printed of a refused event.

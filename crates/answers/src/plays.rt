@@ -3,11 +3,12 @@ ghost use Rattle.std.specs.Prelude.{◌≡◌, ◌≤◌, ◌<◌, List, Result,
 ghost use Rattle.refusal.specs.declared.Refusal.{Refusal};
 ghost use Rattle.text.specs.Pages.{page_text};
 ghost use Rattle.events.specs.declared.Accepted.{Accepted};
+ghost use Rattle.events.specs.States.{born};
 ghost use Rattle.events.specs.Steps.{Step, lent_all};
 ghost use Rattle.marks.specs.Lives.{sheet_of};
-ghost use Rattle.marks.specs.Marks.{SameSheet, setting, state};
+ghost use Rattle.marks.specs.Marks.{SameSheet, setting, sheet_below, sheet_number, state};
 ghost use Rattle.answers.specs.Texts.{HasLines};
-ghost use Rattle.answers.specs.Slips.{event_of};
+ghost use Rattle.answers.specs.Slips.{event_of, office_sheet_number};
 ghost use Rattle.answers.specs.Paragraphs.{answer_text};
 ghost use Rattle.answers.specs.Reports.{refused_line_text};
 ghost use Rattle.answers.specs.Offices.{BoardsOf, EventsPrinted, Heads};
@@ -72,6 +73,15 @@ fn tell_line<'a, S: Figures, H: Sheet>(
     }
 }
 
+// The life of the sheet, at its birth as the one that the office plays events on.
+fn office_life<'a, H: Sheet>(sheet: &'a mut H) -> Life<'a, H>
+    ensures content { sheet_below (sheet_of result) ≡ sheet.old }
+    ensures number { sheet_number (sheet_of result) ≡ office_sheet_number }
+    ensures born { state H.places H.shown (sheet_of result) ≡ born (H.shown sheet.old) }
+{
+    Life::new(sheet, SHEET_NUMBER)
+}
+
 // Puts the entry to the index of the list.
 fn put<T: Drop>(list: &mut [T], index: usize, entry: T)
     requires { index < length list.old }
@@ -97,7 +107,7 @@ pub(crate) fn tell_lines<'a, S: Figures, H: Sheet>(
     ensures { Heads (EventsPrinted S.ops S.notation S.price_text book.now (H.places sheet.old) (H.shown sheet.old) text.now) lines told.old told.new }
 {
     let places = sheet.length();
-    let mut life = Life::new(sheet, SHEET_NUMBER);
+    let mut life = office_life(sheet);
     let mut rest = text;
     let mut marks = 0;
     for i in 0..lines {

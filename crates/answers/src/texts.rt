@@ -32,7 +32,7 @@ pub fn line_count(text: &[u8]) -> usize
 }
 
 // The first line of a text, how it is read, and what follows it. A line that byte 10 does not end is refused whatever it says.
-#[tactic(auto, using(crate::proofs::Lining::last_read))]
+#[tactic(auto, using(crate::proofs::Lining::line_read, crate::proofs::Lining::last_read))]
 pub(crate) fn next_line<S: Figures>(rest: &[u8]) -> (&[u8], Reading<S>, &[u8])
     requires { 0 < length rest.now }
     ensures { FirstRead S.notation rest.now (line_as result.1 result.0.now) result.2.now }

@@ -4,8 +4,8 @@ mod lives;
 mod refusals;
 mod scales;
 
-use answers::office_report;
-use report::printed;
+use answers::{Told, line_count, office_report};
+use report::Report;
 use std::alloc::{AllocError, Global};
 use std::process::Abort;
 use std::test::Fail;
@@ -36,6 +36,30 @@ fn joined(heap: Global, first: &[u8], second: &[u8]) -> Result<Vec<u8>, AllocErr
     Ok(text)
 }
 
+// A list of so many entries, with nothing told yet.
+fn blank<'a>(heap: Global, entries: usize) -> Result<Vec<Told<'a>>, AllocError> {
+    let mut told = Vec::new(heap);
+    for _ in 0..entries {
+        told.push(Told::new())?;
+    }
+    Ok(told)
+}
+
+// Three pieces as one text.
+fn text_of(heap: Global, pieces: (&[u8], &[u8], &[u8])) -> Result<Vec<u8>, AllocError> {
+    let text = joined(heap, pieces.0, pieces.1)?;
+    joined(heap, &text, pieces.2)
+}
+
+// What the entries say, one after the other.
+fn printed(heap: Global, told: &[Told]) -> Result<Vec<u8>, AllocError> {
+    let mut text = Vec::new(heap);
+    for entry in told {
+        text.extend_from_slice(&text_of(heap, entry.pieces())?)?;
+    }
+    Ok(text)
+}
+
 // The events are played on the sheet of the order, and just this is printed.
 fn told(
     rt: &impl Abort,
@@ -44,8 +68,24 @@ fn told(
     events: &[u8],
     expected: &[u8],
 ) -> Result<(), Fail> {
-    let out = office_report(heap, JIG, order, events)?;
-    assert_eq!(rt; out.as_slice(), expected);
+    let mut told = blank(heap, line_count(events))?;
+    let outcome = office_report(JIG, order, events, &mut told);
+    assert!(rt; outcome.is_ok(), "the events are not played");
+    assert_eq!(rt; printed(heap, &told)?.as_slice(), expected);
+    Ok(())
+}
+
+// It is refused, and just this is printed.
+fn refusal(
+    rt: &impl Abort,
+    heap: Global,
+    outcome: Result<usize, Report>,
+    expected: &[u8],
+) -> Result<(), Fail> {
+    match outcome {
+        Ok(_) => panic!(rt; "the events are played"),
+        Err(report) => assert_eq!(rt; text_of(heap, report.pieces())?.as_slice(), expected),
+    }
     Ok(())
 }
 
@@ -57,8 +97,7 @@ fn refused(
     order: &[u8],
     expected: &[u8],
 ) -> Result<(), Fail> {
-    let report = office_report(heap, book, order, b"mark\n");
-    assert!(rt; report.is_err(), "the events are played");
-    assert_eq!(rt; printed(&report), expected);
-    Ok(())
+    let mut told = blank(heap, 1)?;
+    let outcome = office_report(book, order, b"mark\n", &mut told);
+    refusal(rt, heap, outcome, expected)
 }

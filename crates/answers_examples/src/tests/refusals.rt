@@ -1,5 +1,6 @@
-// A book or an order at fault: nothing is played.
-use super::{JIG, JIG_TIMES, refused};
+// A book or an order at fault, or a list that is too short: nothing is played.
+use super::{JIG, JIG_TIMES, blank, printed, refusal, refused};
+use answers::office_report;
 use std::test::Fail;
 
 #[test]
@@ -24,4 +25,17 @@ fn an_order_at_fault(rt: HostRuntime) -> Result<(), Fail> {
         b"refused 13 reader 3\no SJ\n",
     )?;
     refused(&rt, rt.alloc(), JIG, b"", b"refused 18 order 1\n")
+}
+
+// One entry for two lines: what the entry says stays.
+#[test]
+fn a_list_that_is_one_entry_too_short(rt: HostRuntime) -> Result<(), Fail> {
+    let mut told = blank(rt.alloc(), 1)?;
+    let played = office_report(JIG, JIG_TIMES, b"mark\n", &mut told);
+    assert!(&rt; played.is_ok(), "the event is not played");
+    let outcome = office_report(JIG, JIG_TIMES, b"mark\nquote 70\n", &mut told);
+    refusal(&rt, rt.alloc(), outcome, b"refused 9 sheet 0\n")?;
+    let text = printed(rt.alloc(), &told)?;
+    assert_eq!(&rt; text.as_slice(), b"marked 1\n".as_slice());
+    Ok(())
 }

@@ -11,8 +11,8 @@ use Rattle.answers.proofs.plays.tell_lines.Goals as goal
 pub loop-i-init : goal.loop-i-init
 loop-i-init g c =
     let h = g.H.Sheet in
-    let start = sheet_of c.new-life.result in
-    let made = c.new-life.ensures in
+    let start = sheet_of c.office_life-life.result in
+    let made = c.office_life-life.ensures in
     let all : c.args.lines ≡ c.args.lines - 0 = omega arith in
     record {
       few = omega arith;
@@ -31,7 +31,7 @@ loop-i-preserved g c =
     let notation = g.S.Figures.notation in
     let price_text = g.S.Printed.price_text in
     let book = c.args.book.now in
-    let start = sheet_of c.new-life.result in
+    let start = sheet_of c.office_life-life.result in
     let was = sheet_of c.loop-i.life in
     let now = sheet_of c.tell_line-entry.new.life in
     let n = c.length-places.result in
@@ -58,7 +58,7 @@ pub returns : goal.returns
 returns g c =
     let h = g.H.Sheet in
     let inv = c.loop-i.invariant in
-    let made = c.new-life.ensures in
+    let made = c.office_life-life.ensures in
     let all : c.loop-i.i ≡ c.args.lines = omega arith in
     let none : c.args.lines - c.loop-i.i ≡ 0 = omega arith in
-    all_told g.met.S.Scale.lawful g.S.Figures.notation g.S.Printed.price_text h.laws c.args.book.now (sheet_of c.new-life.result) c.length-places.result c.args.text.now c.args.told.now c.args.sheet.now c.loop-i.rest.now c.loop-i.marks c.loop-i.i c.args.lines (sheet_of c.loop-i.life) c.loop-i.told made.content made.number c.length-places.ensures (subst (HasLines c.loop-i.rest.now) none inv.left) all c.requires.room inv.sofar
+    all_told g.met.S.Scale.lawful g.S.Figures.notation g.S.Printed.price_text h.laws c.args.book.now (sheet_of c.office_life-life.result) c.length-places.result c.args.text.now c.args.told.now c.args.sheet.now c.loop-i.rest.now c.loop-i.marks c.loop-i.i c.args.lines (sheet_of c.loop-i.life) c.loop-i.told made.content made.number c.length-places.ensures (subst (HasLines c.loop-i.rest.now) none inv.left) all c.requires.room inv.sofar
