@@ -4,15 +4,18 @@
 
 use report::book_report;
 use std::fs;
-use std::io::Write;
+use std::io::{self, ErrorKind, Write};
 
-// The bytes of a file; one that cannot be read counts as empty.
-fn text_of(rt: &HostRuntime, path: &str) -> Vec<u8> {
-    fs::read(rt, path).unwrap_or(Vec::new(rt.alloc()))
+// The bytes of a file; one that cannot be read counts as empty, but for want of memory.
+fn text_of(rt: &HostRuntime, path: &str) -> io::Result<Vec<u8>> {
+    match fs::read(rt, path) {
+        Err(error) if error.kind() == ErrorKind::OutOfMemory => Err(error),
+        read => Ok(read.unwrap_or(Vec::new(rt.alloc()))),
+    }
 }
 
 fn main(rt: HostRuntime) -> anyhow::Result<()> {
-    let text = text_of(&rt, "book.txt");
+    let text = text_of(&rt, "book.txt")?;
     let report = book_report(&text);
     let (page, line, end) = report.pieces();
     let mut out = rt.stdout();

@@ -5,11 +5,14 @@
 
 use answers::{Told, line_count, office_report};
 use std::fs;
-use std::io::{self, Read, Write};
+use std::io::{self, ErrorKind, Read, Write};
 
-// The bytes of a file; one that cannot be read counts as empty.
-fn text_of(rt: &HostRuntime, path: &str) -> Vec<u8> {
-    fs::read(rt, path).unwrap_or(Vec::new(rt.alloc()))
+// The bytes of a file; one that cannot be read counts as empty, but for want of memory.
+fn text_of(rt: &HostRuntime, path: &str) -> io::Result<Vec<u8>> {
+    match fs::read(rt, path) {
+        Err(error) if error.kind() == ErrorKind::OutOfMemory => Err(error),
+        read => Ok(read.unwrap_or(Vec::new(rt.alloc()))),
+    }
 }
 
 // Prints three pieces one after the other.
@@ -20,8 +23,8 @@ fn print(rt: &HostRuntime, (first, second, third): (&[u8], &[u8], &[u8])) -> io:
 }
 
 fn main(rt: HostRuntime) -> anyhow::Result<()> {
-    let book = text_of(&rt, "book.txt");
-    let order = text_of(&rt, "order.txt");
+    let book = text_of(&rt, "book.txt")?;
+    let order = text_of(&rt, "order.txt")?;
     let mut events = Vec::new(rt.alloc());
     rt.stdin().read_to_end(&mut events)?;
     let mut told = Vec::new(rt.alloc());

@@ -4,15 +4,18 @@
 
 use printing::quote_report;
 use std::fs;
-use std::io::{Read, Write};
+use std::io::{self, ErrorKind, Read, Write};
 
-// The bytes of a file; one that cannot be read counts as empty.
-fn text_of(rt: &HostRuntime, path: &str) -> Vec<u8> {
-    fs::read(rt, path).unwrap_or(Vec::new(rt.alloc()))
+// The bytes of a file; one that cannot be read counts as empty, but for want of memory.
+fn text_of(rt: &HostRuntime, path: &str) -> io::Result<Vec<u8>> {
+    match fs::read(rt, path) {
+        Err(error) if error.kind() == ErrorKind::OutOfMemory => Err(error),
+        read => Ok(read.unwrap_or(Vec::new(rt.alloc()))),
+    }
 }
 
 fn main(rt: HostRuntime) -> anyhow::Result<()> {
-    let book = text_of(&rt, "book.txt");
+    let book = text_of(&rt, "book.txt")?;
     let mut order = Vec::new(rt.alloc());
     rt.stdin().read_to_end(&mut order)?;
     let report = quote_report(&book, &order);
