@@ -1,5 +1,5 @@
--- The loop that writes the codes: once they name what is still owed, they name the whole. No order matters, since the code of a part
--- over a span is one: once it is right, it is written no other.
+-- The loop that writes the codes: codes that come to name each part that is still owed name the whole. In any order, since a part over
+-- a span has one right code: where it stands, no other is written.
 use Rattle.std.proofs.Common.{◌≡◌, ℕ, ◌+◌, ◌-◌, ◌*◌, ◌/◌, ◌%◌, ◌<◌, ◌≤◌, Some, false, List, [], ◌∷◌, ◌++◌, length, slice_set, refl, ◌∙◌, inl, inr, arith, get_or-set_same, get_or-set_other}
 use Rattle.std.specs.List.{All, sum_by}
 use Rattle.std.proofs.lemmas.Bool.{cases_eq}
@@ -47,7 +47,7 @@ one_picked laws W rules shown part before len c d (t, best, is) (u, other, same)
     let e = best_same laws W rules shown part before len t u best other in
     omega (arith, is, same, e.0, e.1)
 
--- an entry is for a part of the book, at the first n places, and has a derivation
+-- an entry is for one of k parts, at the first n places, and has a derivation
 pub record Ready {S : Type 0} (o : Ops S) (k n : ℕ) (board : List S) (x : Owed) : Type 0 where
   pub part : x.part < k
   pub few : x.span.before + x.span.len ≤ n
@@ -58,12 +58,12 @@ module _ {S : Type 0} (o : Ops S) (W : Weights S) (rules : List Rule) (shown : P
   abbrev Named : List ℕ → Owed → Type 0
   Named codes x = NamesChosen o W rules shown k codes x.part x.span.before x.span.len
 
-  -- the codes that are right are the same in both
+  -- a code that is right is the same in both
   abbrev Kept : List ℕ → List ℕ → Type 0
   Kept codes other =
       (q b l : ℕ) → q < k → 1 ≤ l → Picked o W rules shown q b l (entry_of 0 k codes q b l) → entry_of 0 k other q b l ≡ entry_of 0 k codes q b l
 
-  -- the codes name the part over the span, once they name what is owed
+  -- codes that keep what is right, and name what is owed, name the part over the span
   abbrev Owes : List ℕ → List Owed → ℕ → ℕ → ℕ → Type 0
   Owes codes owed part before len =
       (other : List ℕ) → Kept codes other → All (Named other) owed → NamesChosen o W rules shown k other part before len
@@ -108,7 +108,7 @@ module _ {S : Type 0} {o : Ops S} {W : Weights S} {rules : List Rule} {shown : P
           | inr apart ↦ get_or-set_other codes (entry_index k x.span.before x.span.len x.part) (entry_index k b l q) code 0 apart
         ]
 
-        -- what is owed after the code of the last entry is written gives that entry's name
+        -- what is owed after the code of the last entry is written names that entry
         owes_written : (later : List Owed) → ((other : List ℕ) → entry_of 0 k other x.part x.span.before x.span.len ≡ code → All (Named o W rules shown k other) later → All (Named o W rules shown k other) rest × Named o W rules shown k other x) → Owes o W rules shown k written later part before len
         owes_written later names other kept named =
             let at : entry_of 0 k other x.part x.span.before x.span.len ≡ code = kept x.part x.span.before x.span.len ready.1.part x.span.some (rw coded picked) ∙ coded in
