@@ -1,5 +1,6 @@
 -- A text is cut into lines in one way, and the lines so far are those of the text. Assumes nothing.
 use Rattle.std.proofs.Common.{◌≡◌, ℕ, zero, suc, ◌+◌, ◌-◌, ◌<◌, List, [], ◌∷◌, length, Result, Ok, Err, inl, inr, ⊎_elim, refl, sym, ap, ◌∙◌, subst, arith}
+use Rattle.std.proofs.lemmas.List.{nil_from_length}
 use Rattle.refusal.specs.declared.Refusal.{Refusal}
 use Rattle.refusal.specs.declared.Refusal.TheVariants.{UnknownLine}
 use Rattle.text.specs.Fields.{Lacks}
@@ -49,6 +50,12 @@ pub counted_more : (text rest line after : List ℕ) (count : ℕ) → 0 < lengt
 counted_more text rest line after count some cut counted n h =
     let e : count + suc n ≡ count + 1 + n = omega arith in
     subst (HasLines text) e (counted (suc n) (some, (line, after, cut, h)))
+
+-- where none is left, all are counted
+pub counted_all : (text rest : List ℕ) (count : ℕ) → length rest ≡ 0 → ((n : ℕ) → HasLines rest n → HasLines text (count + n)) → HasLines text count
+counted_all text rest count none counted =
+    let all : count + 0 ≡ count = omega arith in
+    subst (HasLines text) all (counted 0 (nil_from_length rest none))
 
 module _ {S : Type 0} (notation : Notation S) where
   -- the first line as it is read

@@ -8,6 +8,7 @@ use Rattle.scale.specs.TimeGradesLemmas.{time_grade_laws}
 use Rattle.refusal.specs.declared.Source.{Source}
 use Rattle.refusal.specs.declared.Fault.{Fault}
 use Rattle.book.specs.declared.books.Book.{Book}
+use Rattle.sheet.specs.Pairs.{Pairs}
 use Rattle.order.specs.declared.limits.Limit.{Limit}
 use Rattle.order.specs.declared.limits.Limit.TheVariants as limits
 use Rattle.order.specs.Texts.{drawn_pairs}
@@ -22,10 +23,10 @@ use Rattle.answers.specs.Notations.{Notation}
 use Rattle.answers.specs.Texts.{EventTextLine, reading_of}
 use Rattle.answers.specs.Slips.{office_sheet_number, events_of}
 use Rattle.answers.specs.Reports.{paragraphs, printed_lines}
-use Rattle.answers.specs.Offices.{notation_of, played_of, OnePrint, Heads, EventsTold, ListTooShort, OfficeRefused, OfficeReport}
+use Rattle.answers.specs.Offices.{notation_of, played_of, EventsPrinted, Heads, EventsTold, ListTooShort, OfficeRefused, OfficeReport}
 use Rattle.answers.proofs.Lining.{lines_once, one_lining}
 
-pub one_print : {S : Type 0} (o : Ops S) → Laws o → (notation : Notation S) (price_text : S → List ℕ) → OnePrint o notation price_text
+one_print : {S : Type 0} (o : Ops S) → Laws o → (notation : Notation S) (price_text : S → List ℕ) (b : Book) (n : ℕ) (birth : Pairs) (text : List ℕ) (one two : List (List ℕ)) → EventsPrinted o notation price_text b n birth text one → EventsPrinted o notation price_text b n birth text two → one ≡ two
 one_print {S} o laws notation price_text b n birth text one two p q =
     let w = book_setting o b n office_sheet_number in
     let lines = one_lining notation text p.lines q.lines p.lined q.lined in
@@ -34,7 +35,7 @@ one_print {S} o laws notation price_text b n birth text one two p q =
     p.printed ∙ (λ i. printed_lines 1 (lines i) (paragraphs price_text n (events_of 0 (map reading_of (lines i))) (answers i))) ∙ sym q.printed
 
 -- the head of a list is one, where what is wanted is
-pub one_head : (Wanted : List (List ℕ) → Type 0) → ((one two : List (List ℕ)) → Wanted one → Wanted two → one ≡ two) → (n : ℕ) (old new other : List (List ℕ)) → Heads Wanted n old new → Heads Wanted n old other → new ≡ other
+one_head : (Wanted : List (List ℕ) → Type 0) → ((one two : List (List ℕ)) → Wanted one → Wanted two → one ≡ two) → (n : ℕ) (old new other : List (List ℕ)) → Heads Wanted n old new → Heads Wanted n old other → new ≡ other
 one_head Wanted once n old new other h k =
     h.written ∙ ap (λ ts. ts ++ drop n old) (once h.texts k.texts h.wanted k.wanted) ∙ sym k.written
 

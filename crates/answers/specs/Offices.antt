@@ -59,11 +59,6 @@ pub record EventsPrinted {S : Type 0} (o : Ops S) (notation : Notation S) (price
   pub quotes : QuotesAsAtBirth o (book_setting o b n office_sheet_number) birth ledger_at_birth (played_of lines) answers
   pub printed : texts ≡ printed_lines 1 lines (paragraphs price_text n (events_of 0 (map reading_of lines)) answers)
 
--- events are printed in one way only
-abbrev pub OnePrint : {S : Type 0} → Ops S → Notation S → (S → List ℕ) → Type 0
-OnePrint o notation price_text =
-    (b : Book) (n : ℕ) (birth : Pairs) (text : List ℕ) (one two : List (List ℕ)) → EventsPrinted o notation price_text b n birth text one → EventsPrinted o notation price_text b n birth text two → one ≡ two
-
 -- the first n entries of a list that is lent are now such texts, and the others are as they were
 pub record Heads (Wanted : List (List ℕ) → Type 0) (n : ℕ) (old new : List (List ℕ)) : Type 0 where
   pub texts : List (List ℕ)

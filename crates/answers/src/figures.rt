@@ -6,12 +6,12 @@ use report::Printed;
 use scale::{Grade, Time, TimeGrade};
 use text::numbers;
 
-// A scale whose limits are written as numbers, and whose prices are printed.
+/// A scale whose limits are written in a text as numbers, and whose prices are printed.
 pub trait Figures: Printed {
-    // How a limit is written.
+    /// How a limit is written.
     ghost notation: { Notation Self };
 
-    // The limit that `rest` writes, if it is just as many numbers as a limit has.
+    /// The limit that `rest` writes, if it is just as many numbers as a limit has, a space before each.
     fn limit(rest: &[u8]) -> Option<Self>
         ensures { MatchOption result ((limit : Self) → WritesLimit notation rest.now limit → ⊥) (λ limit. WritesLimit notation rest.now limit) };
 }

@@ -7,18 +7,24 @@ use crate::words::{Word, line_word};
 use refusal::Refusal;
 use text::{number_field, stroke_field};
 
-// An event as a line states it: a keep and a back are of the latest mark, whose slip the line does not name.
+/// An event as a line states it: a keep and a back are of the latest mark, whose slip the line does not name.
 #[derive(Clone, Copy, PartialEq, Eq, Debug)]
 pub enum EventLine<S> {
+    /// `strike place stroke`: a place, counted from 1, and the byte of a letter, A to Z. Whether the sheet has the place is not looked at.
     Strike { place: usize, stroke: u8 },
+    /// `mark`
     Mark,
+    /// `keep`
     Keep,
+    /// `back`
     Back,
+    /// `prune` and a limit
     Prune { limit: S },
+    /// `quote` and a limit
     Quote { limit: S },
 }
 
-// How a line is read: what it states, or why it is refused.
+/// How a line is read: what it states, or why it is refused.
 pub type Reading<S> = Result<EventLine<S>, Refusal>;
 
 // What a line states whose word is `strike`: its two fields are a place and a stroke.
@@ -59,7 +65,8 @@ fn quote_line<S: Figures>(rest: &[u8]) -> Option<EventLine<S>>
     Some(EventLine::Quote { limit })
 }
 
-// What a line states; refused where its word names no event, and where its fields are not those of the word.
+/// What a line states, without its byte 10. Refused with 12 where its first word names no event, and with 13 where what follows is not
+/// the fields of that word.
 pub fn event_line<S: Figures>(line: &[u8]) -> Reading<S>
     ensures { LineRead S.notation line.now result }
 {
@@ -75,7 +82,7 @@ pub fn event_line<S: Figures>(line: &[u8]) -> Reading<S>
     stated.ok_or(Refusal::MalformedField)
 }
 
-// A line is read in one way only.
+/// A line is read in one way only. It does nothing when it is called.
 pub fn one_reading<S: Figures>()
     ensures { OneReading S.notation }
 {}

@@ -89,13 +89,13 @@ fn tell_by<'a, H: Sheet>(
     }
 }
 
-/// Plays the events, one a line, one after the other on the sheet that the order draws, and answers how many lines they are: the
-/// first so many entries of `told` are then what is printed, an entry a line, and the others are as they were. Of a line that states
-/// an event that is what the event answers; a line that states none is refused with 12 or 13, with its number, from 1, and played
-/// events are not changed by it. Limits and costs are of the scale of the order's limit.
+/// Plays the events, one a line, one after the other on the sheet that the order draws, and answers how many lines there are: the first
+/// so many entries of `told` are then what is printed, an entry a line, and the others are as they were. Of a line that states an event
+/// that is what the event answers; of a line that states none it is refusal 12 or 13 with the line's number, from 1, and the line, and
+/// it changes nothing. Places count from 1; limits and costs are of the scale of the order's limit.
 ///
-/// The error is what is printed instead, and `told` is then as it was, and no event is played: the fault of the book's text, else that
-/// of the order's, or refusal 9, of the sheet, where `told` has fewer entries than the events have lines (`line_count`).
+/// The error is what is printed instead, and then `told` is as it was and no event is played: the fault of the book's text, else that of
+/// the order's, else refusal 9, of the sheet, where `told` has fewer entries than the text has lines (`line_count`).
 pub fn office_report<'a>(
     book: &'a [u8],
     order: &'a [u8],

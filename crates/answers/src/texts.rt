@@ -17,7 +17,9 @@ fn line_and_rest(text: &[u8]) -> (&[u8], &[u8])
     }
 }
 
-/// How many lines a text has: byte 10 ends a line, and a last line that it does not end counts too.
+/// How many lines a text of events has, and so how many entries what is printed of it takes: byte 10 ends a line, and a last line that it
+/// does not end counts too.
+#[tactic(auto, using(crate::proofs::Lining::counted_all))]
 pub fn line_count(text: &[u8]) -> usize
     ensures { HasLines text.now result }
 {

@@ -1,7 +1,5 @@
-use Rattle.std.proofs.Common.{◌≡◌, ◌+◌, ◌<◌, length, subst, arith}
+use Rattle.std.proofs.Common.{◌<◌, length, arith}
 use Rattle.std.proofs.lemmas.Bool.Decides.{nat_tests}
-use Rattle.std.proofs.lemmas.List.{nil_from_length}
-use Rattle.answers.specs.Texts.{HasLines}
 use Rattle.answers.proofs.Lining.{cut_shorter, counted_more}
 use Rattle.answers.proofs.texts.line_count.Goals as goal
 
@@ -15,9 +13,3 @@ loop-rest-preserved c =
       few = omega (arith, shorter, c.loop-rest.invariant.few);
       counted = counted_more c.args.text.now rest c.line_and_rest.result.0.now c.line_and_rest.result.1.now c.loop-rest.count some cut c.loop-rest.invariant.counted;
     }
-
-pub returns : goal.returns
-returns c =
-    let empty : length c.loop-rest.rest.now ≡ 0 = grind (arith, nat_tests) in
-    let all : c.loop-rest.count + 0 ≡ c.loop-rest.count = omega arith in
-    subst (HasLines c.args.text.now) all (c.loop-rest.invariant.counted 0 (nil_from_length c.loop-rest.rest.now empty))
