@@ -11,6 +11,7 @@ use Rattle.scale.specs.Grades.{grade_ops}
 use Rattle.scale.specs.GradesLemmas.{grade_laws}
 use Rattle.scale.specs.TimeGrades.{time_grade_ops}
 use Rattle.scale.specs.TimeGradesLemmas.{time_grade_laws}
+use Rattle.book.specs.BookSaid.{parts_of, rules_of}
 use Rattle.derivations.specs.Trees.{Tree, strokes, weight, prices}
 use Rattle.derivations.specs.Costs.{cost, least_cost}
 use Rattle.planner.proofs.Searching.{none_within}
@@ -42,7 +43,7 @@ module _ {S : Type 0} (o : Ops S) where
 
 -- the test of an example
 abbrev pub passes : Trial → Bool
-passes (makes_book k rules) = is_book k rules
+passes (makes_book b) = is_book (parts_of b) (rules_of b)
 passes (by_time row) = row_passes time_ops row
 passes (by_grade row) = row_passes grade_ops row
 passes (by_time_grade row) = row_passes time_grade_ops row
@@ -81,7 +82,7 @@ module _ {S : Type 0} {o : Ops S} (laws : Laws o) where
   )
 
 trial_holds : (trial : Trial) → passes trial ≡ true → Holds trial
-trial_holds (makes_book k rules) h = lawful_from k rules h
+trial_holds (makes_book b) h = lawful_from (parts_of b) (rules_of b) h
 trial_holds (by_time row) h = row_holds time_laws row h
 trial_holds (by_grade row) h = row_holds grade_laws row h
 trial_holds (by_time_grade row) h = row_holds time_grade_laws row h

@@ -7,15 +7,15 @@ use Rattle.scale.specs.Ops.{Ops}
 use Rattle.scale.specs.Times.{time, time_ops}
 use Rattle.scale.specs.Grades.{grade_of, grade_ops}
 use Rattle.scale.specs.TimeGrades.{time_grade, time_grade_ops}
-use Rattle.book.specs.declared.rules.Rule.{Rule}
-use Rattle.book.specs.BookSaid.{rules_of}
+use Rattle.book.specs.declared.books.Book.{Book}
+use Rattle.book.specs.BookSaid.{parts_of, rules_of}
 use Rattle.book.specs.Ranges.{Lawful}
 use Rattle.sheet.specs.Pairs.{Pairs}
 use Rattle.derivations.specs.Trees.{weights}
 use Rattle.derivations.specs.Costs.{cost}
 use Rattle.derivations.specs.Runs.{NoneWithin}
 use Rattle.planner.specs.Outcomes.{PrunedTo, QuotedAs}
-use Rattle.trials.specs.Jig.{parts, jig, jig_book, places, sheet}
+use Rattle.trials.specs.Jig.{jig_book, places, sheet}
 
 -- an example, in the values S of a scale
 pub data Row (S : Type 0) : Type 0 where
@@ -28,9 +28,9 @@ pub data Row (S : Type 0) : Type 0 where
   -- which run a quote of the sheet within the limit writes, and what that costs
   quotes : (limit : S) → (run : List ℕ) → (price : S) → Row S
 
--- an example: that some rules make a book of k parts; or a row on the scale of time, of grade, or of time and then grade
+-- an example: that what is said makes a book; or a row on the scale of time, of grade, or of time and then grade
 pub data Trial : Type 0 where
-  makes_book : (k : ℕ) → List Rule → Trial
+  makes_book : Book → Trial
   by_time : Row Time → Trial
   by_grade : Row Grade → Trial
   by_time_grade : Row TimeGrade → Trial
@@ -38,7 +38,7 @@ pub data Trial : Type 0 where
 -- the examples
 abbrev pub trials : List Trial
 trials =
-    makes_book parts jig
+    makes_book jig_book
     ∷ by_time (costs (codes "S") (time 12))
     ∷ by_time (costs (codes "JSK") (time 45))
     ∷ by_time (costs (codes "JMK") (time 63))
@@ -79,7 +79,7 @@ module _ {S : Type 0} (o : Ops S) where
 
 -- what an example says, of the operations of its scale
 abbrev pub Holds : Trial → Type 0
-Holds (makes_book k rules) = Lawful k rules
+Holds (makes_book b) = Lawful (parts_of b) (rules_of b)
 Holds (by_time row) = RowHolds time_ops row
 Holds (by_grade row) = RowHolds grade_ops row
 Holds (by_time_grade row) = RowHolds time_grade_ops row

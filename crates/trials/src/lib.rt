@@ -4,7 +4,7 @@
 
 ghost use Rattle.trials.specs.Trials.{TrialsHold};
 
-// Each example of the table holds of the definitions together.
+/// Each example of the table holds of the definitions together. It does nothing when it is called.
 pub fn trials_hold()
     ensures { TrialsHold }
 {}
