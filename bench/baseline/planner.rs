@@ -203,20 +203,29 @@ fn cuts_within<S: Scale>(book: &Book, outside: &[S], around: usize, limit: S) ->
 }
 
 /// Writes the choices of the derivation that the tie rule takes, from the inside board: for the part over the span, and then for
-/// its two halves, the lowest split, and the lowest rule there, that attain the least cost.
+/// its two halves, the lowest split, and the lowest rule there, that attain the least cost. At most 24 spans are still to be chosen at
+/// a time, since no two of them have a place in common.
 fn choose<S: Scale, H: Sheet>(book: &Book, sheet: &H, inside: &[S], choices: &mut [u32], first: usize, last: usize, part: u8) {
-    let index = start(first, last, book.parts()) + part as usize;
-    let least = at(inside, index);
-    let choice = if first == last {
-        first_cut(book, sheet, first, part, least)
-    } else {
-        first_pair(book, inside, first, last, part, least)
-    };
-    *at_mut(choices, index) = choice;
-    if let Side::Pair { left, right } = at(book.rules(), choice as usize % 128).side {
-        let after = first + choice as usize / 128;
-        choose(book, sheet, inside, choices, first, after - 1, left);
-        choose(book, sheet, inside, choices, after, last, right);
+    let mut owed = [(0, 0, 0); 24];
+    owed[0] = (first, last, part);
+    let mut count = 1;
+    while count > 0 {
+        count -= 1;
+        let (first, last, part) = owed[count];
+        let index = start(first, last, book.parts()) + part as usize;
+        let least = at(inside, index);
+        let choice = if first == last {
+            first_cut(book, sheet, first, part, least)
+        } else {
+            first_pair(book, inside, first, last, part, least)
+        };
+        *at_mut(choices, index) = choice;
+        if let Side::Pair { left, right } = at(book.rules(), choice as usize % 128).side {
+            let after = first + choice as usize / 128;
+            owed[count] = (first, after - 1, left);
+            owed[count + 1] = (after, last, right);
+            count += 2;
+        }
     }
 }
 
