@@ -44,9 +44,9 @@ bytes_put xs bs room h least =
     let rest = 8192 - length xs in
     let whole : length xs + rest ≡ 8192 = omega arith in
     let same : take room bs ≡ take rest bs = ⊎_elim
-      (λ (p : length bs < rest). take_all room bs (omega arith) ∙ sym (take_all rest bs (omega arith)))
-      (λ (p : rest ≤ length bs). let e : room ≡ rest = omega arith in ap (λ n. take n bs) e)
-      (cases_lt (length bs) rest) in
+    (λ (p : length bs < rest). take_all room bs (omega arith) ∙ sym (take_all rest bs (omega arith)))
+    (λ (p : rest ≤ length bs). let e : room ≡ rest = omega arith in ap (λ n. take n bs) e)
+    (cases_lt (length bs) rest) in
     ap (λ l. xs ++ l) same ∙ sym (take-append-add xs bs rest) ∙ ap (λ n. take n (xs ++ bs)) whole
 
 -- a page with one text alone, which fits
