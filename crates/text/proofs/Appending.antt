@@ -1,7 +1,6 @@
 -- One text put after another, as far as there is room. Assumes nothing.
-use Rattle.std.proofs.Common.{◌≡◌, ℕ, zero, suc, ◌+◌, ◌-◌, ◌<◌, ◌≤◌, min, List, [], ◌∷◌, ◌++◌, length, get_or, take, sym, refl, ap, ◌∙◌, subst, ⊎_elim, append_assoc, append-nil, arith, length-append}
-use Rattle.std.proofs.lemmas.Bool.{cases_lt}
-use Rattle.std.proofs.lemmas.List.{take_all, take_more, take-append-le}
+use Rattle.std.proofs.Common.{◌≡◌, ℕ, zero, suc, ◌+◌, ◌-◌, ◌<◌, ◌≤◌, min, List, [], ◌∷◌, ◌++◌, length, get_or, take, sym, refl, ap, ◌∙◌, subst, append_assoc, append-nil, arith, length-append}
+use Rattle.std.proofs.lemmas.List.{take_all, take_more, take_min, take-append-le}
 use Rattle.std.proofs.Math.Seq.{take-append-add}
 use Rattle.text.specs.declared.pages.Page.{Page}
 use Rattle.text.specs.Pages.{page_text, Appended}
@@ -43,11 +42,8 @@ pub bytes_put : (xs bs : List ℕ) (room : ℕ) → length xs ≤ 8192 → room 
 bytes_put xs bs room h least =
     let rest = 8192 - length xs in
     let whole : length xs + rest ≡ 8192 = omega arith in
-    let same : take room bs ≡ take rest bs = ⊎_elim
-    (λ (p : length bs < rest). take_all room bs (omega arith) ∙ sym (take_all rest bs (omega arith)))
-    (λ (p : rest ≤ length bs). let e : room ≡ rest = omega arith in ap (λ n. take n bs) e)
-    (cases_lt (length bs) rest) in
-    ap (λ l. xs ++ l) same ∙ sym (take-append-add xs bs rest) ∙ ap (λ n. take n (xs ++ bs)) whole
+    let least_of : room ≡ min rest (length bs) = omega arith in
+    ap (λ l. xs ++ l) (ap (λ n. take n bs) least_of ∙ take_min rest bs) ∙ sym (take-append-add xs bs rest) ∙ ap (λ n. take n (xs ++ bs)) whole
 
 -- a page with one text alone, which fits
 pub alone : {p q : Page} {bs : List ℕ} → page_text p ≡ [] → Appended p bs q → length bs ≤ 8192 → page_text q ≡ bs

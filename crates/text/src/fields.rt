@@ -18,8 +18,7 @@ pub fn number(field: &[u8]) -> Option<u32>
     if *first == b'0' && !others.is_empty() {
         return None;
     }
-    // Digit by digit, and not by `parse`: that asks for a `str`, and to show that the bytes are one is a walk of its own, with which
-    // a book takes twice the time to read.
+    // One walk over the digits: `from_utf8` and then `parse` are two, and a book takes twice the time to read.
     let mut n: u32 = 0;
     for byte in field {
         n = n * 10 + char::from(*byte).to_digit(10)?;

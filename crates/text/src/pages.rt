@@ -48,6 +48,7 @@ impl Page {
         ensures { Appended self.old bytes.now self.new }
     {
         let room = bytes.len().min(self.bytes.remaining_capacity());
+        // Cut to the room, it fits.
         let _ = self.bytes.try_extend_from_slice(&bytes[..room]);
     }
 
@@ -56,6 +57,7 @@ impl Page {
         ensures text { Appended self.old (decimal n) self.new }
         ensures short { length (decimal n) ≤ 20 }
     {
+        // One by one, which for so few bytes is quicker than `put`.
         for digit in Buffer::new().format(n).as_bytes() {
             self.push(*digit);
         }
