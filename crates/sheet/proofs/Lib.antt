@@ -4,3 +4,4 @@ pub mod Replacing
 pub mod Flips
 pub mod Writes
 pub mod Pins
+pub mod Steps

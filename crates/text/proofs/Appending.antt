@@ -1,6 +1,7 @@
 -- One text put after another, as far as there is room. Assumes nothing.
-use Rattle.std.proofs.Common.{◌≡◌, ℕ, zero, suc, ◌+◌, ◌<◌, ◌≤◌, List, [], ◌∷◌, ◌++◌, length, get_or, take, sym, refl, ap, ◌∙◌, subst, append_assoc, append-nil, arith, length-append}
-use Rattle.std.proofs.lemmas.List.{take_all, take_more, take-append-le}
+use Rattle.std.proofs.Common.{◌≡◌, ℕ, zero, suc, ◌+◌, ◌-◌, ◌<◌, ◌≤◌, min, List, [], ◌∷◌, ◌++◌, length, get_or, take, sym, refl, ap, ◌∙◌, subst, append_assoc, append-nil, arith, length-append}
+use Rattle.std.proofs.lemmas.List.{take_all, take_more, take_min, take-append-le}
+use Rattle.std.proofs.Math.Seq.{take-append-add}
 use Rattle.text.specs.declared.pages.Page.{Page}
 use Rattle.text.specs.Pages.{page_text, Appended}
 
@@ -35,6 +36,14 @@ byte_lost xs b h = sym (take-append-le 8192 xs (b ∷ []) (omega arith) ∙ take
 -- the first bytes of a text, and one more
 pub front_put : {p q r : Page} (bs : List ℕ) (i : ℕ) → i < length bs → Appended p (take i bs) q → Appended q (get_or bs i 0 ∷ []) r → Appended p (take (i + 1) bs) r
 front_put bs i h f g = appended_same (sym (take_more bs i 0 h)) (appended_then f g)
+
+-- of a text, as many bytes as there is room for
+pub bytes_put : (xs bs : List ℕ) (room : ℕ) → length xs ≤ 8192 → room ≡ min (length bs) (8192 - length xs) → xs ++ take room bs ≡ take 8192 (xs ++ bs)
+bytes_put xs bs room h least =
+    let rest = 8192 - length xs in
+    let whole : length xs + rest ≡ 8192 = omega arith in
+    let least_of : room ≡ min rest (length bs) = omega arith in
+    ap (λ l. xs ++ l) (ap (λ n. take n bs) least_of ∙ take_min rest bs) ∙ sym (take-append-add xs bs rest) ∙ ap (λ n. take n (xs ++ bs)) whole
 
 -- a page with one text alone, which fits
 pub alone : {p q : Page} {bs : List ℕ} → page_text p ≡ [] → Appended p bs q → length bs ≤ 8192 → page_text q ≡ bs

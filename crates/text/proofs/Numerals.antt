@@ -1,14 +1,13 @@
 -- How a number's digits are read: the digits so far have the value so far. Assumes nothing.
-use Rattle.std.proofs.Common.{Ok, Err, Result, MatchResult, ◌≢◌, ◌≡◌, ℕ, ◌^◌, ◌<◌, ◌≤◌, List, length, get_or, sym, subst, ⊎_elim, arith}
-use Rattle.std.specs.Str.Parse.{digits_value, AllDigits, ParsesUnsigned}
-use Rattle.std.specs.Result.{OkIff}
+use Rattle.std.proofs.Common.{◌≡◌, ℕ, ◌+◌, ◌*◌, ◌^◌, ◌<◌, ◌≤◌, List, length, get_or, take, sym, ap, ◌∙◌, subst, ⊎_elim, arith, length-take}
+use Rattle.std.specs.Str.Parse.{digits_value, AllDigits}
+use Rattle.std.specs.Char.{digit_value}
 use Rattle.std.specs.Int.{IsInRange}
-use Rattle.std.proofs.lemmas.Str.Parse.{IsNumeralModel, numerals_by_value, tells_digits, digit_at, digits_value_short, parse_plain}
+use Rattle.std.proofs.lemmas.Int.Digits.{digits_value_more, digits_more}
+use Rattle.std.proofs.lemmas.Str.Parse.{IsNumeralModel, numerals_by_value, tells_digits, digit_at, digits_value_short}
 use Rattle.std.proofs.lemmas.Fmt.{decimal-digits_value, digits_decimal, first_decimal, decimal_nonempty, length-decimal-le}
 use Rattle.std.proofs.lemmas.Bool.{cases_lt}
-use Rattle.std.specs.Str.{IsUtf8}
-use Rattle.std.proofs.lemmas.Str.{IsUtf8-from_ascii}
-use Rattle.std.proofs.lemmas.Fmt.{IsAscii-decimal}
+use Rattle.std.proofs.lemmas.List.{take_all}
 use Rattle.text.specs.Fields.{Writes}
 
 pub own : IsNumeralModel (AllDigits 10) (digits_value 10)
@@ -42,15 +41,17 @@ writes_value ds d some short first =
     let small : digits_value 10 ds < 10 ^ 6 = digits_value_short own ds 6 d short in
     (decimal-digits_value own ds d some first (omega arith), small)
 
--- what is no text at all writes no number
-pub not_text : (field : List ℕ) → (IsUtf8 field → ⊥) → (n : ℕ) → Writes field n → ⊥
-not_text field h n w = h (subst IsUtf8 w.0 (IsUtf8-from_ascii _ (IsAscii-decimal n (omega arith))))
+-- one more digit
+pub digits_turn : (ds : List ℕ) (i n d : ℕ) → i < length ds → digit_value (get_or ds i 0) < 10 → d ≡ digit_value (get_or ds i 0) → n ≡ digits_value 10 (take i ds) → AllDigits 10 (take i ds) → (n * 10 + d ≡ digits_value 10 (take (i + 1) ds)) × AllDigits 10 (take (i + 1) ds)
+digits_turn ds i n d h b e v all = (omega (arith, digits_value_more 10 ds i h), digits_more 10 ds i h all b)
 
--- what the library's `parse` says of a field with no sign, no leading zero and at most six digits
-module _ {E : Type 0} (field : List ℕ) (some : 0 < length field) (short : length field ≤ 6) (zero : get_or field 0 0 ≡ 48 → length field ≤ 1) where
-  decided : (r : Result ℕ E) → OkIff r (AllDigits 10 field × (0 < length field) × (digits_value 10 field < 2 ^ 32)) (digits_value 10 field) → MatchResult r (λ n. Writes field n) (λ _. (n : ℕ) → Writes field n → ⊥)
-  decided (Ok n) k = subst (Writes field) (sym k.1) (writes_value field k.0.0 some short (λ z. omega (arith, zero z)))
-  decided (Err e) k = λ n w. k (writes_digits field n w, some, omega (arith, digits_value_short own field 6 (writes_digits field n w) short))
+-- what is read so far is small
+pub digits_small : (ds : List ℕ) (i n : ℕ) → i < length ds → length ds ≤ 6 → n ≡ digits_value 10 (take i ds) → AllDigits 10 (take i ds) → n < 100000
+digits_small ds i n h short v d =
+    let small : digits_value 10 (take i ds) < 10 ^ 5 = digits_value_short own (take i ds) 5 d (simp length-take (omega arith)) in omega arith
 
-  pub parsed : (ds : List ℕ) (r : Result ℕ E) → ds ≡ field → ParsesUnsigned 32 10 ds r → get_or field 0 0 ≢ 43 → MatchResult r (λ n. Writes field n) (λ _. (n : ℕ) → Writes field n → ⊥)
-  parsed ds r e h sign = decided r (parse_plain own 32 field r (subst (λ l. ParsesUnsigned 32 10 l r) e h) sign)
+-- at the end of the field
+pub digits_end : (ds : List ℕ) (i n : ℕ) → length ds ≤ i → n ≡ digits_value 10 (take i ds) → AllDigits 10 (take i ds) → 0 < length ds → length ds ≤ 6 → (get_or ds 0 0 ≡ 48 → length ds ≤ 1) → Writes ds n
+digits_end ds i n h v d some short first =
+    let all = take_all i ds h in
+    subst (Writes ds) (sym (v ∙ ap (digits_value 10) all)) (writes_value ds (subst (AllDigits 10) all d) some short (λ z. omega (arith, first z)))

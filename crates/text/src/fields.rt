@@ -5,7 +5,6 @@ ghost use Rattle.text.specs.Fields.{Writes, Field, NumberField, StrokeField, Num
 
 use crate::lines::place;
 use refusal::Refusal;
-use std::str::from_utf8;
 
 /// The number that a field writes: one to six decimal digits, without a leading zero save `0` itself. None where it writes
 /// none.
@@ -16,14 +15,15 @@ pub fn number(field: &[u8]) -> Option<u32>
     if field.len() > 6 {
         return None;
     }
-    if *first == b'+' {
-        return None;
-    }
     if *first == b'0' && !others.is_empty() {
         return None;
     }
-    let digits = from_utf8(field).ok()?;
-    digits.parse().ok()
+    // One walk over the digits: `from_utf8` and then `parse` are two, and a book takes twice the time to read.
+    let mut n: u32 = 0;
+    for byte in field {
+        n = n * 10 + char::from(*byte).to_digit(10)?;
+    }
+    Some(n)
 }
 
 /// The blade grade that a number of a text says. Refused with 15 (docs/REFUSALS.md) above 254.

@@ -1,6 +1,7 @@
-use Rattle.std.proofs.Common.{rules, arith}
+use Rattle.std.proofs.Common.{arith}
 use Rattle.std.proofs.lemmas.Bool.Decides.{nat_tests}
-use Rattle.text.proofs.Numerals.{writes_some, writes_short, writes_first, writes_digit, not_text, parsed}
+use Rattle.std.proofs.lemmas.Str.{digit_value_digit}
+use Rattle.text.proofs.Numerals.{writes_some, writes_short, writes_first, writes_digit, digits_turn, digits_small, digits_end}
 use Rattle.text.proofs.fields.number.Goals as goal
 
 pub returns-in_err-first : goal.returns-in_err-first
@@ -9,19 +10,31 @@ returns-in_err-first c = rw c.from_residual.ensures (λ n w. omega (arith, write
 pub returns-then-field-gt6 : goal.returns-then-field-gt6
 returns-then-field-gt6 c = λ n w. omega (arith, writes_short _ n w)
 
-pub returns-then-first-eq43 : goal.returns-then-first-eq43
-returns-then-first-eq43 c = λ n w. let h = writes_digit _ n w 0 (omega (arith, writes_some _ n w)) in let f = c.in_ok-first.ensures.cases in grind arith
-
 pub returns-then-not-is_empty : goal.returns-then-not-is_empty
 returns-then-not-is_empty c = λ n w. let h = writes_first _ n w (let f = c.in_ok-first.ensures.cases in grind arith) in let f = c.in_ok-first.ensures.cases in grind (arith, nat_tests)
 
-pub returns-in_err-digits : goal.returns-in_err-digits
-returns-in_err-digits c =
-    let not_utf8 = not_text c.args.field.now in
-    rw c.from_residual-in_err-digits.ensures (search (rules, not_utf8))
+pub overflow_mul-n : goal.overflow_mul-n
+overflow_mul-n c = omega (arith, digits_small _ _ _ c.loop-byte-test.true c.if-field-gt6.false c.loop-byte.invariant.0 c.loop-byte.invariant.1)
+
+pub returns-in_err-n : goal.returns-in_err-n
+returns-in_err-n c =
+    let code = c.from.ensures in
+    let no = c.in_err-n.ensures.value in
+    rw c.from_residual-in_err-n.ensures (λ n w. let h = writes_digit _ n w c.loop-byte.byte-index c.loop-byte-test.true in let v = digit_value_digit _ h in grind arith)
+
+pub overflow_add-n : goal.overflow_add-n
+overflow_add-n c =
+    let d = c.in_ok-n.ensures.value in
+    let s = digits_small _ _ _ c.loop-byte-test.true c.if-field-gt6.false c.loop-byte.invariant.0 c.loop-byte.invariant.1 in
+    omega (arith, d.0, d.1, s)
+
+pub loop-byte-preserved : goal.loop-byte-preserved
+loop-byte-preserved c =
+    let code = c.from.ensures in
+    let d = c.in_ok-n.ensures.value in
+    digits_turn c.args.field.now c.loop-byte.byte-index c.loop-byte.n c.in_ok-n.field-0 c.loop-byte-test.true (grind arith) (grind arith) c.loop-byte.invariant.0 c.loop-byte.invariant.1
 
 pub returns : goal.returns
 returns c =
     let f = c.in_ok-first.ensures.cases in
-    let h = parsed c.args.field.now (grind arith) (omega arith) (grind (arith, nat_tests)) c.in_ok-digits.digits.now c.parse.result (search rules) c.parse.ensures.value.0 (grind arith) in
-    search rules
+    digits_end _ _ _ c.loop-byte-test.false c.loop-byte.invariant.0 c.loop-byte.invariant.1 (grind arith) c.if-field-gt6.false (grind (arith, nat_tests))
